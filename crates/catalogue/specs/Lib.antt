@@ -1,0 +1,2 @@
+-- The catalogue interface, from the bottom up: refusals, mode sets, ranges.
+pub mod Refusals
