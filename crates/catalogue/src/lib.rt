@@ -1,2 +1,9 @@
 pub mod types;
 pub mod refusals;
+pub mod modes;
+pub mod ranges;
+pub mod arithmetic;
+pub mod search;
+pub mod narrowing;
+pub mod partners;
+pub mod interface;

@@ -1,0 +1,76 @@
+-- What the code has in hand as it narrows.
+use mathlib.Core.Bool.{Bool, true, false, cond}
+use mathlib.Core.Path.{_≡_, sym, ap, subst, _∙_}
+use native.Mathlib.Omega.{arith}
+use lib.IntN.{ℤ}
+use lib.Signed.{_≤ℤ_, leZ}
+use Rattle.std.specs.declared.option.Option.{Option}
+use Rattle.std.specs.declared.option.Option.the-variants.{Some, None}
+use Rattle.std.proofs.shelf.Signed.{ints, clamps}
+use Rattle.std.proofs.shelf.Tests.{cond-both}
+use Rattle.catalogue.specs.declared.types.Kind.{Kind}
+use Rattle.catalogue.specs.declared.types.Modes.{Modes}
+use Rattle.catalogue.specs.declared.types.Operand.the-variants.{X, Y}
+use Rattle.catalogue.specs.declared.types.Range.{Range}
+use Rattle.catalogue.specs.declared.types.Span.{Span}
+use Rattle.catalogue.specs.declared.types.Triple.{Triple}
+use Rattle.catalogue.specs.Ranges.{Proper, unless-empty, meet, all-three}
+use Rattle.catalogue.specs.Operations.{Arith, Reading, readings, span-of}
+use Rattle.catalogue.specs.Narrowing.{y-for-least, y-for-greatest}
+use Rattle.catalogue.specs.Search.{kept, results, cut, narrowed-readings}
+use Rattle.catalogue.proofs.Rising.{le-true}
+
+-- a range of readings that is not empty
+abbrev pub Sound : Arith → Range → Type 0
+Sound a r = Reading a (r .low) × Reading a (r .high) × Proper r
+
+abbrev pub Sound3 : Arith → Triple → Type 0
+Sound3 a t = Sound a (t .x) × Sound a (t .y) × Sound a (t .z)
+
+abbrev ends : ℤ → ℤ → Range
+ends l h = record { low = l; high = h }
+
+same-three : (x x2 y y2 z z2 : Option Range) → x ≡ x2 → y ≡ y2 → z ≡ z2 → all-three x y z ≡ all-three x2 y2 z2
+same-three x x2 y y2 z z2 a b c = ap (λ v. all-three v y z) a ∙ ap (λ v. all-three x2 v z) b ∙ ap (all-three x2 y2) c
+
+module _ (a : Arith) where
+  pub results-by : (k : Kind) (s : Modes) (x y : Range) (n f : ℤ) (u w : Span) → n ≡ y-for-least k y → f ≡ y-for-greatest k y → u ≡ span-of a k s (x .low) n → w ≡ span-of a k s (x .high) f → ends (u .least) (w .greatest) ≡ results a k s x y
+  results-by k s x y n f u w en ef eu ew =
+      ap (λ v. ends (v .least) (w .greatest)) (eu ∙ ap (span-of a k s (x .low)) en)
+      ∙ ap (λ v. ends (span-of a k s (x .low) (y-for-least k y) .least) (v .greatest)) (ew ∙ ap (span-of a k s (x .high)) ef)
+
+  -- a cut range is sound
+  SoundO : Option Range → Type 0
+  SoundO None = Unit {0}
+  SoundO (Some r) = Sound a r
+
+  SoundO3 : Option Triple → Type 0
+  SoundO3 None = Unit {0}
+  SoundO3 (Some t) = Sound3 a t
+
+  pub cut-sound-of : (r : Range) → Proper (meet (readings a) r) → Sound a (meet (readings a) r)
+  cut-sound-of r h = ((omega (arith, ints, clamps), omega (arith, ints, clamps)), (omega (arith, ints, clamps), omega (arith, ints, clamps)), h)
+
+  meet-sound : (r : Range) → SoundO (unless-empty (meet (readings a) r))
+  unfolding SoundO
+  meet-sound r =
+      let c = meet (readings a) r in
+      cond-both (leZ (c .low) (c .high)) (Some c) None SoundO (λ e. cut-sound-of r (le-true (c .low) (c .high) e)) (λ _. tt)
+
+  three-sound : (x y z : Option Range) → SoundO x → SoundO y → SoundO z → SoundO3 (all-three x y z)
+  unfolding SoundO SoundO3
+  three-sound None y z a b c = tt
+  three-sound (Some x) None z a b c = tt
+  three-sound (Some x) (Some y) None a b c = tt
+  three-sound (Some x) (Some y) (Some z) a b c = (a, b, c)
+
+  pub cut-sound : (t c : Triple) → Some c ≡ cut a t → Sound3 a c
+  unfolding SoundO3
+  cut-sound t c e = subst SoundO3 (sym e) (three-sound _ _ _ (meet-sound (t .x)) (meet-sound (t .y)) (meet-sound (t .z)))
+
+  pub narrowed-by : (k : Kind) (s : Modes) (t : Triple) (n f : ℤ) (w u : Range) (x y z : Option Range) → n ≡ y-for-least k (t .y) → f ≡ y-for-greatest k (t .y) → w ≡ results a k s (t .x) (t .y) → u ≡ meet (t .z) w → x ≡ kept a k s X (t .x) n f (t .z) → y ≡ kept a k s Y (t .y) (t .x .low) (t .x .high) (t .z) → z ≡ unless-empty u → all-three x y z ≡ narrowed-readings a k s t
+  narrowed-by k s t n f w u x y z en ef ew eu ex ey ez =
+      same-three x _ y _ z _
+        (ex ∙ ap (λ v. kept a k s X (t .x) v f (t .z)) en ∙ ap (λ v. kept a k s X (t .x) (y-for-least k (t .y)) v (t .z)) ef)
+        ey
+        (ez ∙ ap unless-empty (eu ∙ ap (meet (t .z)) ew))

@@ -1,0 +1,2 @@
+pub mod stopping;
+pub mod counter;
