@@ -1,6 +1,6 @@
 ghost use mathlib.Core.Path.{_≡_};
 ghost use Prim.Native.Nat.{_<_, _^_};
-ghost use Rattle.catalogue.specs.Operations.{nearest-reading, span-of};
+ghost use Rattle.catalogue.specs.Operations.{Reading, nearest-reading, span-of};
 ghost use Rattle.catalogue.specs.Meanings.{rank-or-2};
 ghost use Rattle.catalogue.specs.Refusals.{numbered};
 ghost use Rattle.counters.specs.Counters.{read-to, write-to};
@@ -13,18 +13,19 @@ use catalogue::types::Span;
 /// The reading from 0 to `end` nearest to a rank.
 fn nearest(end: u32, rank: i32) -> i32
     requires { ⌜ end < 2 ^ 30 ⌝ }
-    ensures { λ r. ⌜ r ≡ nearest-reading (stopping end) rank ⌝ }
+    ensures value { λ r. ⌜ r ≡ nearest-reading (stopping end) rank ⌝ }
+    ensures reads { λ r. ⌜ Reading (stopping end) r ⌝ }
 {
     rank.max(0).min(end as i32)
 }
 
-/// The result of an operation that stops at `end`, or at 0; an operand that is no reading counts as the nearest one.
+/// The result of an operation on readings: sums stop at `end`, differences at 0.
 fn stopped(end: u32, kind: Kind, x: i32, y: i32) -> i32
-    requires { ⌜ end < 2 ^ 30 ⌝ }
-    ensures { λ r. ⌜ r ≡ Stopped end kind (nearest-reading (stopping end) x) (nearest-reading (stopping end) y) ⌝ }
+    requires end { ⌜ end < 2 ^ 30 ⌝ }
+    requires x { ⌜ Reading (stopping end) x ⌝ }
+    requires y { ⌜ Reading (stopping end) y ⌝ }
+    ensures { λ r. ⌜ r ≡ Stopped end kind x y ⌝ }
 {
-    let x = nearest(end, x);
-    let y = nearest(end, y);
     match kind {
         Kind::Sum => (x + y).min(end as i32),
         Kind::Difference => (x - y).max(0),
@@ -33,11 +34,12 @@ fn stopped(end: u32, kind: Kind, x: i32, y: i32) -> i32
 }
 
 /// The least and the greatest result, which are one: modes have no effect.
+/// An operand that is no reading counts as the nearest one.
 pub(crate) fn stopped_span(end: u32, kind: Kind, modes: Modes, x: i32, y: i32) -> Span
     requires { ⌜ end < 2 ^ 30 ⌝ }
     ensures { λ r. ⌜ r ≡ span-of (stopping end) kind modes x y ⌝ }
 {
-    let result = stopped(end, kind, x, y);
+    let result = stopped(end, kind, nearest(end, x), nearest(end, y));
     Span { least: result, greatest: result }
 }
 

@@ -1,0 +1,2 @@
+-- What is true of operations that stop at an end, over the end.
+pub mod Stops
