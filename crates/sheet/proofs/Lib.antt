@@ -1,0 +1,3 @@
+-- Lemmas shared by the proofs of functions, from the bottom up.
+pub mod PlaceSets
+pub mod Settles

@@ -1,0 +1,94 @@
+-- What each call of a sheet answers, and the table that it leaves. Refusals go by number.
+use Prim.Native.Nat.{ℕ}
+use mathlib.Core.Path.{_≡_}
+use mathlib.Core.Bool.{Bool, true, false, cond, _||_}
+use lib.Dec.{ltb, eqb}
+use lib.IntN.{ℤ}
+use lib.Signed.{ltZ}
+use Rattle.std.specs.declared.option.Option.{Option}
+use Rattle.std.specs.declared.option.Option.the-variants.{Some, None}
+use Rattle.std.specs.declared.result.Result.{Result}
+use Rattle.std.specs.declared.result.Result.the-variants.{Ok, Err}
+use Rattle.catalogue.specs.declared.types.Range.{Range}
+use Rattle.catalogue.specs.declared.types.Refusal.{Refusal}
+use Rattle.catalogue.specs.Meanings.{Meaning}
+use Rattle.catalogue.specs.Refusals.{number-of}
+use Rattle.sheet.specs.declared.lines.CheckedLine.{CheckedLine}
+use Rattle.sheet.specs.declared.table.Outcome.{Outcome}
+use Rattle.sheet.specs.declared.table.Outcome.the-variants as outcome
+use Rattle.sheet.specs.declared.table.State.{State}
+use Rattle.sheet.specs.declared.table.State.the-variants.{Settled, Open, Void}
+use Rattle.sheet.specs.declared.table.Table.{Table}
+use Rattle.sheet.specs.Places.{has}
+use Rattle.sheet.specs.Rules.{limited, entered, settled, range-at}
+
+-- ---- limit: the register (1), the low pattern, then the high (2), their order (3)
+
+abbrev pub limits-read : Option ℤ → Option ℤ → Result Range ℕ
+limits-read None h = Err 2
+limits-read (Some l) None = Err 2
+limits-read (Some l) (Some h) = cond (ltZ h l) (Err 3) (Ok record { low = l; high = h })
+
+abbrev pub limit-asked : Meaning → ℕ → ℕ → ℕ → Result Range ℕ
+limit-asked m r low high = cond (ltb 31 r) (Err 1) (limits-read (m .reads low) (m .reads high))
+
+abbrev pub done : {A : Type 0} → Result A ℕ → Result (Unit {0}) ℕ
+done (Ok x) = Ok tt
+done (Err e) = Err e
+
+abbrev pub limit-table : Meaning → ℕ → Result Range ℕ → Table → Table
+limit-table m r (Ok b) t = limited m r b t
+limit-table m r (Err e) t = t
+
+-- ---- enter: the place (7), whether it is free (6); a refused line is handed back
+
+abbrev pub enter-answer : Result (Unit {0}) (Refusal × CheckedLine) → Result (Unit {0}) (ℕ × CheckedLine)
+enter-answer (Ok x) = Ok x
+enter-answer (Err e) = Err (number-of (e .0), e .1)
+
+abbrev pub enter-asked : ℕ → CheckedLine → Table → Result (Unit {0}) (ℕ × CheckedLine)
+enter-asked n l t = cond (ltb 63 n) (Err (7, l)) (cond (has (t .standing) n) (Err (6, l)) (Ok tt))
+
+abbrev pub enter-table : Meaning → ℕ → CheckedLine → Table → Table
+enter-table m n l t = cond (ltb 63 n || has (t .standing) n) t (entered m n (l .line) t)
+
+-- ---- settle: the budget (8)
+
+abbrev pub outcome-of : State → Outcome
+outcome-of Settled = outcome.Settled
+outcome-of Open = outcome.Stopped
+outcome-of Void = outcome.Void
+
+abbrev pub bad-budget : ℕ → Bool
+bad-budget b = eqb b 0 || ltb 65535 b
+
+abbrev pub settle-asked : Meaning → ℕ → Table → Result (Outcome × ℕ) ℕ
+settle-asked m b t = cond (bad-budget b) (Err 8) (Ok (outcome-of (settled m b t .table .state), settled m b t .steps))
+
+abbrev pub settle-table : Meaning → ℕ → Table → Table
+settle-table m b t = cond (bad-budget b) t (settled m b t .table)
+
+-- ---- look: whether the sheet is void (9) when it is taken, then the register (1)
+
+abbrev pub is-void : State → Bool
+is-void Settled = false
+is-void Open = false
+is-void Void = true
+
+abbrev pub is-settled : State → Bool
+is-settled Settled = true
+is-settled Open = false
+is-settled Void = false
+
+-- a look is refused with 9 on a void sheet, and has a property otherwise
+abbrev pub look-answer : {A : Type 0} → Result A Refusal → (A → Type 0) → State → Type 0
+look-answer (Ok l) P s = P l × (is-void s ≡ false)
+look-answer (Err e) P s = (number-of e ≡ 9) × (is-void s ≡ true)
+
+abbrev pub shown : ℕ → Table → Result Range ℕ
+shown r t = cond (ltb 31 r) (Err 1) (Ok (range-at t r))
+
+-- a range by the patterns of its ends, low and then high
+abbrev pub in-patterns : Meaning → Result Range ℕ → Result (ℕ × ℕ) ℕ
+in-patterns m (Ok a) = Ok (m .writes (a .low), m .writes (a .high))
+in-patterns m (Err e) = Err e

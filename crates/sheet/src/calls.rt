@@ -1,0 +1,143 @@
+ghost use mathlib.Core.Path.{_≡_};
+ghost use Rattle.std.specs.Results.{Cases};
+ghost use Rattle.catalogue.specs.Refusals.{numbered};
+ghost use Rattle.sheet.specs.Calls.{done, enter-answer, enter-asked, enter-table, in-patterns, is-settled, is-void, limit-asked, limit-table, limits-read, look-answer, outcome-of, settle-asked, settle-table, shown};
+ghost use Rattle.sheet.specs.Rules.{new-table};
+use catalogue::interface::Catalogue;
+use catalogue::types::Range;
+use catalogue::types::Refusal;
+use crate::lines::CheckedLine;
+use crate::places::Places;
+use crate::sheet::Look;
+use crate::sheet::Sheet;
+use crate::table::Outcome;
+use crate::table::Row;
+use crate::table::State;
+use crate::table::Table;
+
+/// How a settle that leaves a state ended.
+fn outcome(state: State) -> Outcome
+    ensures { λ r. ⌜ r ≡ outcome-of state ⌝ }
+{
+    match state {
+        State::Settled => Outcome::Settled,
+        State::Open => Outcome::Stopped,
+        State::Void => Outcome::Void,
+    }
+}
+
+impl<C: Catalogue> Sheet<C> {
+    /// A sheet with no lines, and limits from the least to the greatest reading.
+    pub fn new(catalogue: C) -> Self
+        ensures table { λ r. ⌜ r .table ≡ new-table (meaning catalogue) ⌝ }
+        ensures catalogue { λ r. ⌜ r .catalogue ≡ catalogue ⌝ }
+    {
+        let all = catalogue.ends();
+        let none = Places::none();
+        let table = Table {
+            limits: [all; 32],
+            ranges: [all; 32],
+            rows: [Row { kind: 0, modes: 0, x: 0, y: 0, z: 0 }; 64],
+            standing: none,
+            naming: [none; 32],
+            due: none,
+            state: State::Settled,
+        };
+        Sheet { catalogue, table }
+    }
+
+    /// The limits that a call of limit asks for, or why it is declined.
+    fn limits(&self, register: u32, low: u32, high: u32) -> Result<Range, Refusal>
+        ensures { λ r. ⌜ numbered r ≡ limit-asked (meaning (now (self .entry) .catalogue)) register low high ⌝ }
+    {
+        if register > 31 {
+            return Err(Refusal::NoSuchRegister);
+        }
+        let low = self.catalogue.rank(low)?;
+        let high = self.catalogue.rank(high)?;
+        if high < low {
+            return Err(Refusal::LowAboveHigh);
+        }
+        Ok(Range { low, high })
+    }
+
+    /// Replaces a register's limits by those from one pattern to another.
+    pub fn limit(&mut self, register: u32, low: u32, high: u32) -> Result<(), Refusal>
+        ensures answer { λ r. ⌜ numbered r ≡ done (limit-asked (meaning (now (self .entry) .catalogue)) register low high) ⌝ }
+        ensures table { λ _. ⌜ now (self .exit) .table ≡ limit-table (meaning (now (self .entry) .catalogue)) register (limit-asked (meaning (now (self .entry) .catalogue)) register low high) (now (self .entry) .table) ⌝ }
+        ensures catalogue { λ _. ⌜ now (self .exit) .catalogue ≡ now (self .entry) .catalogue ⌝ }
+    {
+        let limits = self.limits(register, low, high)?;
+        self.table.limit(&self.catalogue, register as u8, limits);
+        Ok(())
+    }
+
+    /// Enters a checked line at a free place; a refusal hands the line back.
+    pub fn enter(&mut self, place: u32, line: CheckedLine) -> Result<(), (Refusal, CheckedLine)>
+        ensures answer { λ r. ⌜ enter-answer r ≡ enter-asked place line (now (self .entry) .table) ⌝ }
+        ensures table { λ _. ⌜ now (self .exit) .table ≡ enter-table (meaning (now (self .entry) .catalogue)) place line (now (self .entry) .table) ⌝ }
+        ensures catalogue { λ _. ⌜ now (self .exit) .catalogue ≡ now (self .entry) .catalogue ⌝ }
+    {
+        if place > 63 {
+            return Err((Refusal::NoLineThere, line));
+        }
+        if self.table.standing.has(place as u8) {
+            return Err((Refusal::PlaceTaken, line));
+        }
+        self.table.enter(&self.catalogue, place as u8, line);
+        Ok(())
+    }
+
+    /// Steps until rest or until the budget is spent: how it ended, and how many steps were made.
+    pub fn settle(&mut self, budget: u32) -> Result<(Outcome, u32), Refusal>
+        ensures answer { λ r. ⌜ numbered r ≡ settle-asked (meaning (now (self .entry) .catalogue)) budget (now (self .entry) .table) ⌝ }
+        ensures table { λ _. ⌜ now (self .exit) .table ≡ settle-table (meaning (now (self .entry) .catalogue)) budget (now (self .entry) .table) ⌝ }
+        ensures catalogue { λ _. ⌜ now (self .exit) .catalogue ≡ now (self .entry) .catalogue ⌝ }
+    {
+        if budget == 0 || budget > 65535 {
+            return Err(Refusal::BudgetOutOfRange);
+        }
+        let steps = self.table.settle(&self.catalogue, budget);
+        Ok((outcome(self.table.state), steps))
+    }
+
+    /// A look at the sheet, which shows nothing while it is void.
+    pub fn look(&self) -> Result<Look<'_, C>, Refusal>
+        ensures { λ r. ⌜ look-answer r (λ l. now (l .sheet) ≡ now (self .entry)) (now (self .entry) .table .state) ⌝ }
+    {
+        match self.table.state {
+            State::Void => Err(Refusal::SheetVoid),
+            State::Settled | State::Open => Ok(Look { sheet: self }),
+        }
+    }
+}
+
+impl<C: Catalogue> Look<'_, C> {
+    /// A register's range.
+    pub fn range(&self, register: u32) -> Result<Range, Refusal>
+        ensures { λ r. ⌜ numbered r ≡ shown register (now (now (self .entry) .sheet) .table) ⌝ }
+    {
+        if register > 31 {
+            return Err(Refusal::NoSuchRegister);
+        }
+        Ok(self.sheet.table.ranges[register as usize])
+    }
+
+    /// A register's range by the patterns of its low and its high end.
+    pub fn patterns(&self, register: u32) -> Result<(u32, u32), Refusal>
+        ensures { λ r. ⌜ numbered r ≡ in-patterns (meaning (now (now (self .entry) .sheet) .catalogue)) (shown register (now (now (self .entry) .sheet) .table)) ⌝ }
+    {
+        let range = self.range(register)?;
+        Ok((self.sheet.catalogue.pattern(range.low), self.sheet.catalogue.pattern(range.high)))
+    }
+
+    /// Whether the sheet is settled.
+    pub fn is_settled(&self) -> bool
+        ensures { λ r. ⌜ r ≡ is-settled (now (now (self .entry) .sheet) .table .state) ⌝ }
+    {
+        match self.sheet.table.state {
+            State::Settled => true,
+            State::Open | State::Void => false,
+        }
+    }
+}
