@@ -1,17 +1,19 @@
 -- Sets of places as bits: the lowest place, and which places a changed set has.
-use Prim.Native.Nat.{ℕ, zero, suc, _+_, _^_, _/_, _%_, _<_, _≤_}
+use Prim.Native.Nat.{ℕ, zero, suc, _+_, _^_, _/_, _%_, _<_, _≤_, max}
 use mathlib.Core.Bool.{Bool, true, false}
 use mathlib.Core.Path.{_≡_, refl, sym, ap, subst, _∙_}
 use mathlib.Core.Logic.{_⊎_, inl, inr, ⊎-elim}
 use native.Mathlib.Omega.{arith}
 use native.Mathlib.Numerals.{one-add}
 use native.Mathlib.Nat.{two-pow-succ}
+use Prim.Native.Nat.{differ}
+use lib.Bits.{bitOr, bitXor, or-step, or-shr, xor-step, xor-shr}
 use lib.Count.{trailingZeros, under}
 use lib.Dec.{eqb}
 use Rattle.std.proofs.shelf.Bits.{shr-shr}
-use Rattle.std.proofs.shelf.Tests.{eq-eqb, ne-eqb}
+use Rattle.std.proofs.shelf.Tests.{eq-eqb, ne-eqb, eqb-true, cond-both}
 use Rattle.sheet.specs.declared.places.Places.{Places}
-use Rattle.sheet.specs.Places.{has}
+use Rattle.sheet.specs.Places.{has, with-place, without}
 
 -- bit i of a number
 abbrev pub bit : ℕ → ℕ → ℕ
@@ -58,3 +60,71 @@ has-false s n e = ne-eqb (bit (s .bits) n) 1 (λ h. absurd (apart (sym e ∙ h))
   where
     apart : _≡_ {A = ℕ} 0 1 → ⊥
     apart z = omega arith
+
+-- ---- bits of a power of two, of a union and of a difference
+pub zero-bit : (i : ℕ) → bit 0 i ≡ 0
+zero-bit zero = refl
+zero-bit (suc i) = bit-suc 0 i ∙ zero-bit i
+
+pow-half : (n : ℕ) → 2 ^ suc n / 2 ≡ 2 ^ n
+pow-half n = omega (arith, two-pow-succ n)
+
+pub pow-bit : (n : ℕ) → bit (2 ^ n) n ≡ 1
+pow-bit zero = refl
+pow-bit (suc n) = bit-suc (2 ^ suc n) n ∙ ap (λ q. bit q n) (pow-half n) ∙ pow-bit n
+
+pub pow-other : (n i : ℕ) → (i ≡ n → ⊥) → bit (2 ^ n) i ≡ 0
+pow-other zero zero ne = absurd (ne refl)
+pow-other zero (suc i) ne = bit-suc 1 i ∙ zero-bit i
+pow-other (suc n) zero ne = omega (arith, two-pow-succ n, bit-zero (2 ^ suc n))
+pow-other (suc n) (suc i) ne = bit-suc (2 ^ suc n) i ∙ ap (λ q. bit q i) (pow-half n) ∙ pow-other n i (λ e. ne (ap suc e))
+
+bit-below : (a i : ℕ) → bit a i < 2
+bit-below a i = omega arith
+
+or-bit : (a b i : ℕ) → bit (bitOr a b) i ≡ max (bit a i) (bit b i)
+or-bit a b i = ap (λ q. q % 2) (or-shr a b i) ∙ low (a / 2 ^ i) (b / 2 ^ i)
+  where
+    low : (a b : ℕ) → bitOr a b % 2 ≡ max (a % 2) (b % 2)
+    low a b = omega (arith, or-step a b)
+
+xor-bit : (a b i : ℕ) → bit (bitXor a b) i ≡ differ (bit a i) (bit b i)
+xor-bit a b i = ap (λ q. q % 2) (xor-shr a b i) ∙ low (a / 2 ^ i) (b / 2 ^ i)
+  where
+    small : (x y : ℕ) → x < 2 → y < 2 → differ x y < 2
+    small zero zero p q = omega arith
+    small zero (suc y) p q = q
+    small (suc x) zero p q = p
+    small (suc zero) (suc zero) p q = omega arith
+    small (suc zero) (suc (suc y)) p q = absurd (omega arith)
+    small (suc (suc x)) (suc y) p q = absurd (omega arith)
+    low : (a b : ℕ) → bitXor a b % 2 ≡ differ (a % 2) (b % 2)
+    low a b = let h = small (a % 2) (b % 2) (omega arith) (omega arith) in omega (arith, xor-step a b)
+
+abbrev gone : ℕ → Places → Places
+gone n s = record { bits = bitXor (s .bits) (2 ^ n) }
+
+-- a set with a place more has that place, and every other as before
+pub with-here : (n : ℕ) (s : Places) → has (with-place n s) n ≡ true
+with-here n s = has-true (with-place n s) n (omega (arith, or-bit (s .bits) (2 ^ n) n, pow-bit n, bit-below (s .bits) n))
+
+pub with-other : (n : ℕ) (s : Places) (k : ℕ) → (k ≡ n → ⊥) → has (with-place n s) k ≡ has s k
+with-other n s k ne = ap (λ q. eqb q 1) (or-bit (s .bits) (2 ^ n) k ∙ omega (arith, pow-other n k ne))
+
+differ-one : (x : ℕ) → x ≡ 1 → differ x 1 ≡ 0
+differ-one x e = ap (λ y. differ y 1) e
+
+differ-none : (x y : ℕ) → y ≡ 0 → differ x y ≡ x
+differ-none zero y e = e
+differ-none (suc x) y e = ap (differ (suc x)) e
+
+-- a set without a place does not have it, and has every other as before
+pub without-here : (n : ℕ) (s : Places) → has (without n s) n ≡ false
+without-here n s = cond-both (has s n) (gone n s) s (λ u. has u n ≡ false)
+    (λ e. has-false (gone n s) n (xor-bit (s .bits) (2 ^ n) n ∙ ap (differ (bit (s .bits) n)) (pow-bit n) ∙ differ-one (bit (s .bits) n) (eqb-true (bit (s .bits) n) 1 e)))
+    (λ e. e)
+
+pub without-other : (n : ℕ) (s : Places) (k : ℕ) → (k ≡ n → ⊥) → has (without n s) k ≡ has s k
+without-other n s k ne = cond-both (has s n) (gone n s) s (λ u. has u k ≡ has s k)
+    (λ e. ap (λ q. eqb q 1) (xor-bit (s .bits) (2 ^ n) k ∙ differ-none (bit (s .bits) k) (bit (2 ^ n) k) (pow-other n k ne)))
+    (λ e. refl)

@@ -2,6 +2,7 @@ ghost use mathlib.Core.Path.{_≡_};
 ghost use Rattle.std.specs.Results.{Cases};
 ghost use Rattle.catalogue.specs.Refusals.{numbered};
 ghost use Rattle.sheet.specs.Calls.{done, enter-answer, enter-asked, enter-table, in-patterns, is-settled, is-void, limit-asked, limit-table, limits-read, look-answer, outcome-of, settle-asked, settle-table, shown};
+ghost use Rattle.sheet.specs.Index.{Indexed};
 ghost use Rattle.sheet.specs.Rules.{new-table};
 use catalogue::interface::Catalogue;
 use catalogue::types::Range;
@@ -31,6 +32,7 @@ impl<C: Catalogue> Sheet<C> {
     pub fn new(catalogue: C) -> Self
         ensures table { λ r. ⌜ r .table ≡ new-table (meaning catalogue) ⌝ }
         ensures catalogue { λ r. ⌜ r .catalogue ≡ catalogue ⌝ }
+        ensures index { λ r. ⌜ Indexed (r .table) ⌝ }
     {
         let all = catalogue.ends();
         let none = Places::none();
@@ -66,6 +68,7 @@ impl<C: Catalogue> Sheet<C> {
         ensures answer { λ r. ⌜ numbered r ≡ done (limit-asked (meaning (now (self .entry) .catalogue)) register low high) ⌝ }
         ensures table { λ _. ⌜ now (self .exit) .table ≡ limit-table (meaning (now (self .entry) .catalogue)) register (limit-asked (meaning (now (self .entry) .catalogue)) register low high) (now (self .entry) .table) ⌝ }
         ensures catalogue { λ _. ⌜ now (self .exit) .catalogue ≡ now (self .entry) .catalogue ⌝ }
+        ensures index { λ _. ⌜ (Indexed (now (self .entry) .table) → Indexed (now (self .exit) .table)) ⌝ }
     {
         let limits = self.limits(register, low, high)?;
         self.table.limit(&self.catalogue, register as u8, limits);
@@ -77,6 +80,7 @@ impl<C: Catalogue> Sheet<C> {
         ensures answer { λ r. ⌜ enter-answer r ≡ enter-asked place line (now (self .entry) .table) ⌝ }
         ensures table { λ _. ⌜ now (self .exit) .table ≡ enter-table (meaning (now (self .entry) .catalogue)) place line (now (self .entry) .table) ⌝ }
         ensures catalogue { λ _. ⌜ now (self .exit) .catalogue ≡ now (self .entry) .catalogue ⌝ }
+        ensures index { λ _. ⌜ (Indexed (now (self .entry) .table) → Indexed (now (self .exit) .table)) ⌝ }
     {
         if place > 63 {
             return Err((Refusal::NoLineThere, line));
@@ -93,6 +97,7 @@ impl<C: Catalogue> Sheet<C> {
         ensures answer { λ r. ⌜ numbered r ≡ settle-asked (meaning (now (self .entry) .catalogue)) budget (now (self .entry) .table) ⌝ }
         ensures table { λ _. ⌜ now (self .exit) .table ≡ settle-table (meaning (now (self .entry) .catalogue)) budget (now (self .entry) .table) ⌝ }
         ensures catalogue { λ _. ⌜ now (self .exit) .catalogue ≡ now (self .entry) .catalogue ⌝ }
+        ensures index { λ _. ⌜ (Indexed (now (self .entry) .table) → Indexed (now (self .exit) .table)) ⌝ }
     {
         if budget == 0 || budget > 65535 {
             return Err(Refusal::BudgetOutOfRange);
