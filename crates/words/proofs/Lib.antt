@@ -1,0 +1,6 @@
+mod Steps
+mod Laws
+mod Numerals
+mod Inverses
+mod Decimals
+mod Patterns
