@@ -34,11 +34,11 @@ numeral-digits n m [] e = (tt, cc)
 numeral-digits n m (b ∷ bs) e =
     ⊎-elim
     (λ t.
-      let h = ltb-true (worth b) 10 t in
-      let p = numeral-digits (n * 10 + worth b) m bs (sym (cond-true _ _ _ t) ∙ e) in
-      let w = worth-digit b h in
-      let small : digitValue b < 10 = omega arith in
-      ((small, p .0), rw w (p .1)))
+    let h = ltb-true (worth b) 10 t in
+    let p = numeral-digits (n * 10 + worth b) m bs (sym (cond-true _ _ _ t) ∙ e) in
+    let w = worth-digit b h in
+    let small : digitValue b < 10 = omega arith in
+    ((small, p .0), rw w (p .1)))
     (λ f. none-some m (sym (cond-false _ _ _ f) ∙ e))
     (cases-bool (ltb (worth b) 10))
 
@@ -65,14 +65,14 @@ number-writes : (w : List ℕ) (n : ℕ) → number-of w ≡ Some n → (n < 100
 number-writes w n e =
     ⊎-elim
     (λ t.
-      let p = and-parts (led w) (ltb (length w) 6) t in
-      let l = led-parts w (p .0) in
-      let s = ltb-true (length w) 6 (p .1) in
-      let d = numeral-digits 0 n w (sym (cond-true _ _ _ t) ∙ e) in
-      let short : length w ≤ 5 = omega arith in
-      let v = value-short own w 5 (d .0) short in
-      let small : value 10 w < 2 ^ 64 = omega arith in
-      (omega (arith, d .1), rw (d .1) (decimal-value own w (d .0) (l .0) (l .1) small)))
+    let p = and-parts (led w) (ltb (length w) 6) t in
+    let l = led-parts w (p .0) in
+    let s = ltb-true (length w) 6 (p .1) in
+    let d = numeral-digits 0 n w (sym (cond-true _ _ _ t) ∙ e) in
+    let short : length w ≤ 5 = omega arith in
+    let v = value-short own w 5 (d .0) short in
+    let small : value 10 w < 2 ^ 64 = omega arith in
+    (omega (arith, d .1), rw (d .1) (decimal-value own w (d .0) (l .0) (l .1) small)))
     (λ f. none-some n (sym (cond-false _ _ _ f) ∙ e))
     (cases-bool (led w && ltb (length w) 6))
 

@@ -92,11 +92,7 @@ pub fn number(word: &[u8]) -> Option<u32>
     ensures value { λ r. ⌜ r ≡ number-of (now (word .entry)) ⌝ }
     ensures inverts { λ r. ⌜ Inverts decimal 100_000 (now (word .entry)) r ⌝ }
 {
-    if short(word) {
-        digits(word, 10)
-    } else {
-        None
-    }
+    if short(word) { digits(word, 10) } else { None }
 }
 
 /// A pattern of eight hexadecimal digits, in capitals.
