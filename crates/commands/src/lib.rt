@@ -125,7 +125,7 @@ fn alone(command: Command, rest: &[u8]) -> Option<Command>
 fn first_number(text: &[u8]) -> Option<(u32, &[u8])>
     ensures { λ r. ⌜ mapped left r ≡ taken number-of (words (now (text .entry))) ⌝ }
 {
-    let (word, rest) = word(text);
+    let (word, rest) = first(text);
     Some((number(word)?, rest))
 }
 
@@ -153,12 +153,19 @@ fn next_kind(rest: &[u8]) -> Option<(Kind, &[u8])>
     Some((kind(word)?, rest))
 }
 
+/// The first word of a text, and the rest from the space behind it on.
+fn first(text: &[u8]) -> (&[u8], &[u8])
+    ensures { λ r. ⌜ words (now (text .entry)) ≡ now (r .0) ∷ after (now (r .1)) ⌝ }
+{
+    word(text)
+}
+
 /// The word behind the space that the rest begins with, and the rest behind that.
 fn next(rest: &[u8]) -> Option<(&[u8], &[u8])>
     ensures { λ r. ⌜ BySome r (after (now (rest .entry)) ≡ []) (λ p. after (now (rest .entry)) ≡ now (p .0) ∷ after (now (p .1))) ⌝ }
 {
     match rest {
-        [_, text @ ..] => Some(word(text)),
+        [_, text @ ..] => Some(first(text)),
         [] => None,
     }
 }

@@ -2,11 +2,11 @@
 use mathlib.Core.Path.{_≡_, refl, sym, ap, _∙_}
 use mathlib.Core.List.{List, [], _∷_, _++_}
 use mathlib.Core.Bool.{true, false, cond}
-use Prim.Native.Nat.{ℕ, _-_, _<_, _≤_}
+use Prim.Native.Nat.{ℕ, _<_, _≤_}
 use native.Mathlib.Omega.{arith}
 use lib.Dec.{eqb}
-use lib.ListN.{length, getD, drop, take}
-use Rattle.std.proofs.shelf.Lists.{take-all, length-drop}
+use lib.ListN.{length, getD, drop}
+use Rattle.std.proofs.shelf.Lists.{length-drop}
 use Rattle.std.proofs.shelf.Tests.{eqb-true, eqb-false, cond-both}
 use Rattle.std.specs.shelf.Lists.{All}
 use Rattle.words.specs.Words.{front, back, pieces, words, after, onto}
@@ -89,18 +89,10 @@ pub record Line (xs l r : List ℕ) : Type 0 where
   pub lines : 0 < length xs → lines xs ≡ l ∷ lines r
   pub shorter : 0 < length xs → length r < length xs
 
-line-from : (xs l r : List ℕ) → l ≡ front 10 xs → r ≡ drop 1 (back 10 xs) → Line xs l r
-line-from xs l r p q = record {
+pub line-parts : (xs l r : List ℕ) → l ≡ front 10 xs → r ≡ drop 1 (back 10 xs) → Line xs l r
+line-parts xs l r p q = record {
   line = p;
   rest = q;
   lines = λ h. let s = lines-split xs h in cc;
   shorter = λ h. rw q (simp length-drop (omega (arith, back-le 10 xs)));
 }
-
--- the rest as the pattern `[_, tail @ ..]` names it
-pub line-more : (xs l b : List ℕ) → l ≡ front 10 xs → b ≡ back 10 xs → Line xs l (take (length b - 1) (drop 1 b))
-line-more xs l b p q = line-from xs l _ p (take-all (length b - 1) (drop 1 b) (simp length-drop (omega arith)) ∙ ap (drop 1) q)
-
-pub line-last : (xs l b : List ℕ) → l ≡ front 10 xs → b ≡ back 10 xs → length b ≡ 0 → Line xs l b
-line-last xs l [] p q e = line-from xs l [] p (ap (drop 1) q)
-line-last xs l (c ∷ b) p q e = absurd (omega arith)

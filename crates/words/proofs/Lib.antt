@@ -1,5 +1,5 @@
 mod Steps
-mod Laws
+pub mod Laws
 mod Numerals
 mod Inverses
 mod Decimals

@@ -1,17 +1,31 @@
 //! Readers of byte slices: a text's words and lines as parts of it, and the words that stand for numbers.
 
-ghost use Prim.Native.Nat.{_<_, _≤_, _^_};
+ghost use Prim.Native.Nat.{ℕ, _<_, _≤_, _^_};
 ghost use Rattle.std.specs.Written.{decimal};
 ghost use Rattle.std.specs.shelf.Lists.{All};
 ghost use Rattle.std.specs.declared.option.Option.the-variants.{None, Some};
 ghost use Rattle.words.specs.Lines.{lines};
 ghost use Rattle.words.specs.Numbers.{Inverts, led, number-of, numeral, pattern-of, worth, written};
-ghost use Rattle.words.specs.Words.{after, back, front, words};
-ghost use lib.Dec.{ltb};
+ghost use Rattle.words.specs.Words.{back, front};
+ghost use lib.Dec.{eqb, ltb};
 ghost use lib.ListN.{drop, getD, length};
 ghost use mathlib.Core.Bool.{_&&_, cond};
 ghost use mathlib.Core.List.{_++_, _∷_};
 ghost use mathlib.Core.Path.{_≡_};
+
+/// Where the first `mark` stands in a text; the text's length where none does.
+fn place(text: &[u8], mark: u8) -> usize
+    ensures within { λ r. ⌜ r ≤ length (now (text .entry)) ⌝ }
+    ensures before { λ r. ⌜ ((k : ℕ) → k < r → getD (now (text .entry)) k 0 ≡ mark → ⊥) ⌝ }
+    ensures found { λ r. ⌜ (r < length (now (text .entry)) → getD (now (text .entry)) r 0 ≡ mark) ⌝ }
+{
+    for (i, byte) in text.iter().enumerate() {
+        if *byte == mark {
+            return i;
+        }
+    }
+    text.len()
+}
 
 /// What stands before the first `mark`, and the rest from that mark on, both as parts of the text.
 pub fn cut(text: &[u8], mark: u8) -> (&[u8], &[u8])
@@ -21,21 +35,26 @@ pub fn cut(text: &[u8], mark: u8) -> (&[u8], &[u8])
     ensures clear { λ r. ⌜ All (λ b. b ≡ mark → ⊥) (now (r .0)) ⌝ }
     ensures stops { λ r. ⌜ (0 < length (now (r .1)) → getD (now (r .1)) 0 0 ≡ mark) ⌝ }
 {
-    for (i, byte) in text.iter().enumerate() {
-        if *byte == mark {
-            return text.split_at(i);
-        }
-    }
-    (text, &[])
+    text.split_at(place(text, mark))
 }
 
 /// The word before the first space, and the rest from that space on.
 pub fn word(line: &[u8]) -> (&[u8], &[u8])
     ensures word { λ r. ⌜ now (r .0) ≡ front 32 (now (line .entry)) ⌝ }
     ensures rest { λ r. ⌜ now (r .1) ≡ back 32 (now (line .entry)) ⌝ }
-    ensures words { λ r. ⌜ words (now (line .entry)) ≡ now (r .0) ∷ after (now (r .1)) ⌝ }
 {
     cut(line, b' ')
+}
+
+/// What stands behind the first byte of a text, if it has one.
+fn behind_first(text: &[u8]) -> &[u8]
+    ensures { λ r. ⌜ now r ≡ drop 1 (now (text .entry)) ⌝ }
+{
+    if text.is_empty() {
+        text
+    } else {
+        text.split_at(1).1
+    }
 }
 
 /// The line before the first line feed, and the text behind that line feed; an empty text gives two empty parts.
@@ -46,10 +65,7 @@ pub fn line(text: &[u8]) -> (&[u8], &[u8])
     ensures shorter { λ r. ⌜ (0 < length (now (text .entry)) → length (now (r .1)) < length (now (text .entry))) ⌝ }
 {
     let (line, rest) = cut(text, b'\n');
-    match rest {
-        [_, tail @ ..] => (line, tail),
-        [] => (line, rest),
-    }
+    (line, behind_first(rest))
 }
 
 /// What a digit below the base is worth.
@@ -78,7 +94,7 @@ fn digits(word: &[u8], base: u32) -> Option<u32>
 }
 
 /// Whether a word has one to five bytes, of which the first is 0 only where it stands alone.
-fn short(word: &[u8]) -> bool
+fn sized_as_number(word: &[u8]) -> bool
     ensures { λ r. ⌜ r ≡ (led (now (word .entry)) && ltb (length (now (word .entry))) 6) ⌝ }
 {
     match word {
@@ -92,7 +108,18 @@ pub fn number(word: &[u8]) -> Option<u32>
     ensures value { λ r. ⌜ r ≡ number-of (now (word .entry)) ⌝ }
     ensures inverts { λ r. ⌜ Inverts decimal 100_000 (now (word .entry)) r ⌝ }
 {
-    if short(word) { digits(word, 10) } else { None }
+    if sized_as_number(word) {
+        digits(word, 10)
+    } else {
+        None
+    }
+}
+
+/// Whether a word has eight bytes.
+fn sized_as_pattern(word: &[u8]) -> bool
+    ensures { λ r. ⌜ r ≡ eqb (length (now (word .entry))) 8 ⌝ }
+{
+    word.len() == 8
 }
 
 /// A pattern of eight hexadecimal digits, in capitals.
@@ -100,7 +127,7 @@ pub fn pattern(word: &[u8]) -> Option<u32>
     ensures value { λ r. ⌜ r ≡ pattern-of (now (word .entry)) ⌝ }
     ensures inverts { λ r. ⌜ Inverts written (2 ^ 32) (now (word .entry)) r ⌝ }
 {
-    if word.len() == 8 {
+    if sized_as_pattern(word) {
         digits(word, 16)
     } else {
         None
