@@ -2,6 +2,7 @@
 
 ghost use Rattle.catalogue.specs.declared.types.Kind.{Kind};
 ghost use Rattle.commands.specs.Commands.{by-letter, command-of, enter-of, kind-by-letter, kind-of, last, left, limit-of, look-of, settle-of, taken};
+ghost use Rattle.commands.specs.Lines.{Reads};
 ghost use Rattle.std.specs.Options.{Cases as BySome, mapped};
 ghost use Rattle.words.specs.Numbers.{number-of, pattern-of};
 ghost use Rattle.words.specs.Words.{after, words};
@@ -38,7 +39,8 @@ pub enum Command {
 
 /// The command that a line stands for, if it stands for one.
 pub fn read(line: &[u8]) -> Option<Command>
-    ensures { λ r. ⌜ r ≡ command-of (now (line .entry)) ⌝ }
+    ensures value { λ r. ⌜ r ≡ command-of (now (line .entry)) ⌝ }
+    ensures reads { λ r. ⌜ Reads (now (line .entry)) r ⌝ }
 {
     match line {
         [letter, b' ', text @ ..] => lettered(char::from(*letter), text),

@@ -61,7 +61,7 @@ led-from (b ∷ []) h e = refl
 led-from (b ∷ c ∷ bs) h e =
     let n : b ≡ 48 → ⊥ = λ z. absurd (omega (arith, e z)) in grind (arith, tells)
 
-number-writes : (w : List ℕ) (n : ℕ) → number-of w ≡ Some n → (n < 100000) × (decimal n ≡ w)
+pub number-writes : (w : List ℕ) (n : ℕ) → number-of w ≡ Some n → (n < 100000) × (decimal n ≡ w)
 number-writes w n e =
     ⊎-elim
     (λ t.
@@ -80,7 +80,7 @@ decimal-led : (n : ℕ) → n < 2 ^ 64 → getD (decimal n) 0 0 ≡ 48 → lengt
 decimal-led n h e =
     ⊎-elim (λ t. ap length (decimal-digit n t)) (λ f. absurd (omega (arith, first-decimal n (omega arith) h))) (cases-lt n 10)
 
-writes-number : (w : List ℕ) (n : ℕ) → n < 100000 → decimal n ≡ w → number-of w ≡ Some n
+pub writes-number : (w : List ℕ) (n : ℕ) → n < 100000 → decimal n ≡ w → number-of w ≡ Some n
 writes-number w n h e =
     let big : n < 2 ^ 64 = omega arith in
     let l = led-from (decimal n) (decimal-some n big) (decimal-led n big) in

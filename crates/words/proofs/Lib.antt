@@ -2,5 +2,5 @@ mod Steps
 pub mod Laws
 mod Numerals
 mod Inverses
-mod Decimals
-mod Patterns
+pub mod Decimals
+pub mod Patterns

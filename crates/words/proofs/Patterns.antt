@@ -87,7 +87,7 @@ eight-written p q r s t u v w m e =
     let w″ = glyph-worth w (m % 16) (w′ .0) (d .at-7) in
     (d .small, cc)
 
-pattern-writes : (w : List ℕ) (n : ℕ) → pattern-of w ≡ Some n → (n < 2 ^ 32) × (written n ≡ w)
+pub pattern-writes : (w : List ℕ) (n : ℕ) → pattern-of w ≡ Some n → (n < 2 ^ 32) × (written n ≡ w)
 pattern-writes [] n e = none-some n e
 pattern-writes (a ∷ []) n e = none-some n e
 pattern-writes (a ∷ b ∷ []) n e = none-some n e
@@ -113,7 +113,7 @@ written-reads n h =
     ∙ back-step (n % 16) (((((((0 * 16 + n / 0x1000_0000 % 16) * 16 + n / 0x100_0000 % 16) * 16 + n / 0x10_0000 % 16) * 16 + n / 0x1_0000 % 16) * 16 + n / 0x1000 % 16) * 16 + n / 0x100 % 16) * 16 + n / 0x10 % 16) ([]) (omega arith)
     ∙ ap Some (join n h)
 
-writes-pattern : (w : List ℕ) (n : ℕ) → n < 2 ^ 32 → written n ≡ w → pattern-of w ≡ Some n
+pub writes-pattern : (w : List ℕ) (n : ℕ) → n < 2 ^ 32 → written n ≡ w → pattern-of w ≡ Some n
 writes-pattern w n h e = ap pattern-of (sym e) ∙ written-reads n h
 
 pub pattern-law : (w : List ℕ) (r : Option ℕ) → r ≡ pattern-of w → Inverts written (2 ^ 32) w r
