@@ -35,7 +35,7 @@ limit-written ws c e =
     let r = step number-form ws _ c e in
     let l = step pattern-form (r .rest) _ c (r .more) in
     let h = step pattern-form (l .rest) _ c (l .more) in
-    ended 76 ws (h .rest) (Limit (r .value) (l .value) (h .value)) c (h .more) (λ q. record { sized = (r .fits, l .fits, h .fits); letter = refl; words = join (r .split) (join (l .split) (join (h .split) q)) })
+    ended 76 ws (h .rest) (Limit (r .value) (l .value) (h .value)) c (h .more) (λ q. record { sized = (r .fits, l .fits, h .fits); letter = refl {a = 76}; words = join (r .split) (join (l .split) (join (h .split) q)) })
 
 enter-written : (ws : List (List ℕ)) (c : Command) → enter-of ws ≡ Some c → Written 69 ws c
 enter-written ws c e =
@@ -45,17 +45,17 @@ enter-written ws c e =
     let x = step number-form (m .rest) _ c (m .more) in
     let y = step number-form (x .rest) _ c (x .more) in
     let z = step number-form (y .rest) _ c (y .more) in
-    ended 69 ws (z .rest) (Enter (n .value) (k .value) (m .value) (x .value) (y .value) (z .value)) c (z .more) (λ q. record { sized = (n .fits, m .fits, x .fits, y .fits, z .fits); letter = refl; words = join (n .split) (join (k .split) (join (m .split) (join (x .split) (join (y .split) (join (z .split) q))))) })
+    ended 69 ws (z .rest) (Enter (n .value) (k .value) (m .value) (x .value) (y .value) (z .value)) c (z .more) (λ q. record { sized = (n .fits, m .fits, x .fits, y .fits, z .fits); letter = refl {a = 69}; words = join (n .split) (join (k .split) (join (m .split) (join (x .split) (join (y .split) (join (z .split) q))))) })
 
 settle-written : (ws : List (List ℕ)) (c : Command) → settle-of ws ≡ Some c → Written 83 ws c
 settle-written ws c e =
     let b = step number-form ws _ c e in
-    ended 83 ws (b .rest) (Settle (b .value)) c (b .more) (λ q. record { sized = b .fits; letter = refl; words = join (b .split) q })
+    ended 83 ws (b .rest) (Settle (b .value)) c (b .more) (λ q. record { sized = b .fits; letter = refl {a = 83}; words = join (b .split) q })
 
 look-written : (ws : List (List ℕ)) (c : Command) → look-of ws ≡ Some c → Written 82 ws c
 look-written ws c e =
     let r = step number-form ws _ c e in
-    ended 82 ws (r .rest) (Look (r .value)) c (r .more) (λ q. record { sized = r .fits; letter = refl; words = join (r .split) q })
+    ended 82 ws (r .rest) (Look (r .value)) c (r .more) (λ q. record { sized = r .fits; letter = refl {a = 82}; words = join (r .split) q })
 
 letter-written : (b : ℕ) (ws : List (List ℕ)) (c : Command) → by-letter b ws ≡ Some c → Written b ws c
 letter-written b ws c e =

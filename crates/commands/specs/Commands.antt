@@ -31,10 +31,14 @@ left p = (p .0, after (p .1 .now))
 abbrev pub word : {A B : Type 0} → (List ℕ → Option A) → List (List ℕ) → (A → List (List ℕ) → Option B) → Option B
 word read ws go = then (taken read ws) (λ p. go (p .0) (p .1))
 
+-- None where a further word is left
+abbrev pub none-left : List (List ℕ) → Option (Unit {0})
+none-left [] = Some tt
+none-left (w ∷ ws) = None
+
 -- a command that no further word follows
 abbrev pub last : List (List ℕ) → Command → Option Command
-last [] c = Some c
-last (w ∷ ws) c = None
+last ws c = then (none-left ws) (λ _. Some c)
 
 -- the letters of the kinds: s, d and p
 abbrev pub kind-by-letter : ℕ → Option Kind

@@ -1,7 +1,7 @@
 //! The commands of a script, and the reader that makes one of a line.
 
 ghost use Rattle.catalogue.specs.declared.types.Kind.{Kind};
-ghost use Rattle.commands.specs.Commands.{by-letter, command-of, enter-of, kind-by-letter, kind-of, last, left, limit-of, look-of, settle-of, taken};
+ghost use Rattle.commands.specs.Commands.{by-letter, command-of, enter-of, kind-by-letter, kind-of, left, limit-of, look-of, none-left, settle-of, taken};
 ghost use Rattle.commands.specs.Lines.{Reads};
 ghost use Rattle.std.specs.Options.{Cases as BySome, mapped};
 ghost use Rattle.words.specs.Numbers.{number-of, pattern-of};
@@ -67,14 +67,12 @@ fn limit(text: &[u8]) -> Option<Command>
     let (register, rest) = first_number(text)?;
     let (low, rest) = next_pattern(rest)?;
     let (high, rest) = next_pattern(rest)?;
-    alone(
-        Command::Limit {
-            register,
-            low,
-            high,
-        },
-        rest,
-    )
+    no_more(rest)?;
+    Some(Command::Limit {
+        register,
+        low,
+        high,
+    })
 }
 
 fn enter(text: &[u8]) -> Option<Command>
@@ -86,40 +84,40 @@ fn enter(text: &[u8]) -> Option<Command>
     let (x, rest) = next_number(rest)?;
     let (y, rest) = next_number(rest)?;
     let (z, rest) = next_number(rest)?;
-    alone(
-        Command::Enter {
-            place,
-            kind,
-            modes,
-            x,
-            y,
-            z,
-        },
-        rest,
-    )
+    no_more(rest)?;
+    Some(Command::Enter {
+        place,
+        kind,
+        modes,
+        x,
+        y,
+        z,
+    })
 }
 
 fn settle(text: &[u8]) -> Option<Command>
     ensures { λ r. ⌜ r ≡ settle-of (words (now (text .entry))) ⌝ }
 {
     let (budget, rest) = first_number(text)?;
-    alone(Command::Settle { budget }, rest)
+    no_more(rest)?;
+    Some(Command::Settle { budget })
 }
 
 fn look(text: &[u8]) -> Option<Command>
     ensures { λ r. ⌜ r ≡ look-of (words (now (text .entry))) ⌝ }
 {
     let (register, rest) = first_number(text)?;
-    alone(Command::Look { register }, rest)
+    no_more(rest)?;
+    Some(Command::Look { register })
 }
 
-/// A command, if no further word follows it.
-fn alone(command: Command, rest: &[u8]) -> Option<Command>
-    ensures { λ r. ⌜ r ≡ last (after (now (rest .entry))) command ⌝ }
+/// None where a further word follows.
+fn no_more(rest: &[u8]) -> Option<()>
+    ensures { λ r. ⌜ r ≡ none-left (after (now (rest .entry))) ⌝ }
 {
     match next(rest) {
-        None => Some(command),
         Some(_) => None,
+        None => Some(()),
     }
 }
 
