@@ -95,23 +95,14 @@ kind-form = record { to = kind-writes; from = λ k _. kind-reads k; clear = λ k
 abbrev going : {A : Type 0} → Option A → List (List ℕ) → (A → List (List ℕ) → Option Command) → Option Command
 going {A} o ws go = then {A = A × List (List ℕ)} (then o (λ a. Some (a, ws))) (λ p. go (p .0) (p .1))
 
--- a word was read, and reading went on to the command c
-pub record Step {A : Type 0} (write : A → List ℕ) (Fit : A → Type 0) (ws : List (List ℕ)) (go : A → List (List ℕ) → Option Command) (c : Command) : Type 0 where
-  pub value : A
-  pub rest : List (List ℕ)
-  pub fits : Fit value
-  pub split : write value ∷ rest ≡ ws
-  pub more : go value rest ≡ Some c
-
-pub step : {A : Type 0} {read : List ℕ → Option A} {write : A → List ℕ} {Fit : A → Type 0} → Form A read write Fit → (ws : List (List ℕ)) (go : A → List (List ℕ) → Option Command) (c : Command) → word read ws go ≡ Some c → Step write Fit ws go c
-step form [] go c e = none-some c e
-step {A} {read} {write} {Fit} form (w ∷ ws) go c e = at (read w) refl e
+-- what follows from the word that was read, and from how reading went on to the command c
+pub taking : {A P : Type 0} {read : List ℕ → Option A} {write : A → List ℕ} {Fit : A → Type 0} → Form A read write Fit → (ws : List (List ℕ)) (go : A → List (List ℕ) → Option Command) (c : Command) → word read ws go ≡ Some c → ((a : A) (rest : List (List ℕ)) → Fit a → write a ∷ rest ≡ ws → go a rest ≡ Some c → P) → P
+taking form [] go c e next = none-some c e
+taking {A} {P} {read} {write} {Fit} form (w ∷ ws) go c e next = at (read w) refl e
   where
-    at : (o : Option A) → read w ≡ o → going o ws go ≡ Some c → Step write Fit (w ∷ ws) go c
-    at None q e = none-some c e
-    at (Some a) q e =
-        let f = form .to w a q in
-        record { value = a; rest = ws; fits = f .0; split = ap (λ v. v ∷ ws) (f .1); more = e }
+  at : (o : Option A) → read w ≡ o → going o ws go ≡ Some c → P
+  at None q e = none-some c e
+  at (Some a) q e = let f = form .to w a q in next a ws (f .0) (ap (λ v. v ∷ ws) (f .1)) e
 
 -- a word that was written is read
 pub step-back : {A : Type 0} {read : List ℕ → Option A} {write : A → List ℕ} {Fit : A → Type 0} → Form A read write Fit → (a : A) (ws : List (List ℕ)) (go : A → List (List ℕ) → Option Command) → Fit a → word read (write a ∷ ws) go ≡ go a ws

@@ -15,7 +15,7 @@ use Rattle.commands.specs.Lines.{letter-of, words-of, spaced, line-of, Sized, 
 use Rattle.commands.specs.declared.Command.{Command}
 use Rattle.commands.specs.declared.Command.the-variants.{Limit, Enter, Settle, Look}
 use Rattle.commands.proofs.Spaces.{Clear, words-back, spaced-words}
-use Rattle.commands.proofs.Forms.{number-form, pattern-form, kind-form, none-some, step, step-back}
+use Rattle.commands.proofs.Forms.{number-form, pattern-form, kind-form, none-some, taking, step-back}
 
 -- the command has this letter and these words
 pub record Written (b : ℕ) (ws : List (List ℕ)) (c : Command) : Type 0 where
@@ -32,30 +32,30 @@ ended b ws (w ∷ rest) d c e written = none-some c e
 
 limit-written : (ws : List (List ℕ)) (c : Command) → limit-of ws ≡ Some c → Written 76 ws c
 limit-written ws c e =
-    let r = step number-form ws _ c e in
-    let l = step pattern-form (r .rest) _ c (r .more) in
-    let h = step pattern-form (l .rest) _ c (l .more) in
-    ended 76 ws (h .rest) (Limit (r .value) (l .value) (h .value)) c (h .more) (λ q. record { sized = (r .fits, l .fits, h .fits); letter = refl {a = 76}; words = join (r .split) (join (l .split) (join (h .split) q)) })
+    taking number-form ws _ c e (λ r r-ws r-fits r-is r-more.
+    taking pattern-form r-ws _ c r-more (λ l l-ws l-fits l-is l-more.
+    taking pattern-form l-ws _ c l-more (λ h h-ws h-fits h-is h-more.
+    ended 76 ws h-ws (Limit r l h) c h-more (λ q. record { sized = (r-fits, l-fits, h-fits); letter = refl; words = join r-is (join l-is (join h-is q)) }))))
 
 enter-written : (ws : List (List ℕ)) (c : Command) → enter-of ws ≡ Some c → Written 69 ws c
 enter-written ws c e =
-    let n = step number-form ws _ c e in
-    let k = step kind-form (n .rest) _ c (n .more) in
-    let m = step number-form (k .rest) _ c (k .more) in
-    let x = step number-form (m .rest) _ c (m .more) in
-    let y = step number-form (x .rest) _ c (x .more) in
-    let z = step number-form (y .rest) _ c (y .more) in
-    ended 69 ws (z .rest) (Enter (n .value) (k .value) (m .value) (x .value) (y .value) (z .value)) c (z .more) (λ q. record { sized = (n .fits, m .fits, x .fits, y .fits, z .fits); letter = refl {a = 69}; words = join (n .split) (join (k .split) (join (m .split) (join (x .split) (join (y .split) (join (z .split) q))))) })
+    taking number-form ws _ c e (λ n n-ws n-fits n-is n-more.
+    taking kind-form n-ws _ c n-more (λ k k-ws k-fits k-is k-more.
+    taking number-form k-ws _ c k-more (λ m m-ws m-fits m-is m-more.
+    taking number-form m-ws _ c m-more (λ x x-ws x-fits x-is x-more.
+    taking number-form x-ws _ c x-more (λ y y-ws y-fits y-is y-more.
+    taking number-form y-ws _ c y-more (λ z z-ws z-fits z-is z-more.
+    ended 69 ws z-ws (Enter n k m x y z) c z-more (λ q. record { sized = (n-fits, m-fits, x-fits, y-fits, z-fits); letter = refl; words = join n-is (join k-is (join m-is (join x-is (join y-is (join z-is q))))) })))))))
 
 settle-written : (ws : List (List ℕ)) (c : Command) → settle-of ws ≡ Some c → Written 83 ws c
 settle-written ws c e =
-    let b = step number-form ws _ c e in
-    ended 83 ws (b .rest) (Settle (b .value)) c (b .more) (λ q. record { sized = b .fits; letter = refl {a = 83}; words = join (b .split) q })
+    taking number-form ws _ c e (λ b b-ws b-fits b-is b-more.
+    ended 83 ws b-ws (Settle b) c b-more (λ q. record { sized = b-fits; letter = refl; words = join b-is q }))
 
 look-written : (ws : List (List ℕ)) (c : Command) → look-of ws ≡ Some c → Written 82 ws c
 look-written ws c e =
-    let r = step number-form ws _ c e in
-    ended 82 ws (r .rest) (Look (r .value)) c (r .more) (λ q. record { sized = r .fits; letter = refl {a = 82}; words = join (r .split) q })
+    taking number-form ws _ c e (λ r r-ws r-fits r-is r-more.
+    ended 82 ws r-ws (Look r) c r-more (λ q. record { sized = r-fits; letter = refl; words = join r-is q }))
 
 letter-written : (b : ℕ) (ws : List (List ℕ)) (c : Command) → by-letter b ws ≡ Some c → Written b ws c
 letter-written b ws c e =
