@@ -6,9 +6,8 @@ ghost use Rattle.std.specs.Of.String.{string-bytes};
 ghost use Rattle.std.specs.Results.{isOk};
 ghost use Rattle.std.specs.declared.option.Option.the-variants.{Some};
 ghost use Rattle.words.specs.Numbers.{glyph-of, written};
-ghost use lib.Utf8.{encode};
 ghost use mathlib.Core.Bool.{cond};
-ghost use mathlib.Core.List.{[], _++_, _∷_};
+ghost use mathlib.Core.List.{_++_};
 ghost use mathlib.Core.Path.{_≡_};
 use catalogue::types::Refusal;
 use std::alloc::AllocError;
@@ -102,8 +101,7 @@ impl fmt::Display for Pattern as PatternDisplay {
 /// The hexadecimal digit that is worth `d`.
 fn glyph(d: u32) -> char
     requires { ⌜ d < 16 ⌝ }
-    ensures value { λ r. ⌜ r ≡ glyph-of d ⌝ }
-    ensures code { λ r. ⌜ encode r ≡ glyph-of d ∷ [] ⌝ }
+    ensures { λ r. ⌜ r ≡ glyph-of d ⌝ }
 {
     let d = d as u8;
     if d < 10 {

@@ -100,9 +100,9 @@ pub taking : {A P : Type 0} {read : List ℕ → Option A} {write : A → List �
 taking form [] go c e next = none-some c e
 taking {A} {P} {read} {write} {Fit} form (w ∷ ws) go c e next = at (read w) refl e
   where
-  at : (o : Option A) → read w ≡ o → going o ws go ≡ Some c → P
-  at None q e = none-some c e
-  at (Some a) q e = let f = form .to w a q in next a ws (f .0) (ap (λ v. v ∷ ws) (f .1)) e
+    at : (o : Option A) → read w ≡ o → going o ws go ≡ Some c → P
+    at None q e = none-some c e
+    at (Some a) q e = let f = form .to w a q in next a ws (f .0) (ap (λ v. v ∷ ws) (f .1)) e
 
 -- a word that was written is read
 pub step-back : {A : Type 0} {read : List ℕ → Option A} {write : A → List ℕ} {Fit : A → Type 0} → Form A read write Fit → (a : A) (ws : List (List ℕ)) (go : A → List (List ℕ) → Option Command) → Fit a → word read (write a ∷ ws) go ≡ go a ws

@@ -2,11 +2,12 @@
 use mathlib.Core.Path.{_≡_, refl, sym, ap, _∙_}
 use mathlib.Core.List.{List, [], _∷_, _++_}
 use mathlib.Core.Bool.{true, false, cond}
+use mathlib.Core.Logic.{_⊎_, inl, inr}
 use Prim.Native.Nat.{ℕ, _<_, _≤_}
 use native.Mathlib.Omega.{arith}
 use lib.Dec.{eqb}
 use lib.ListN.{length, getD, drop}
-use Rattle.std.proofs.shelf.Lists.{length-drop}
+use Rattle.std.proofs.shelf.Lists.{append-nil, length-drop}
 use Rattle.std.proofs.shelf.Tests.{eqb-true, eqb-false, cond-both}
 use Rattle.std.specs.shelf.Lists.{All}
 use Rattle.words.specs.Words.{front, back, pieces, words, after, onto}
@@ -82,17 +83,24 @@ back-le s (b ∷ bs) =
     let h = back-le s bs in
     elim (eqb b s) as (λ v. length (cond v (b ∷ bs) (back s bs)) ≤ length (b ∷ bs)) [ true ↦ omega arith | false ↦ omega arith ]
 
+-- a text is cut at its line feed, or has none
+feed : (xs l b : List ℕ) → Parts 10 xs l b → (l ++ (10 ∷ drop 1 b) ≡ xs) ⊎ ((l ≡ xs) × (drop 1 b ≡ []))
+feed xs l [] p = inr (sym (append-nil l) ∙ p .whole, refl)
+feed xs l (c ∷ b) p = inl (ap (λ x. l ++ (x ∷ b)) (sym (p .stops (omega arith))) ∙ p .whole)
+
 -- a line l and the rest r that a text has behind it
 pub record Line (xs l r : List ℕ) : Type 0 where
-  pub line : l ≡ front 10 xs
-  pub rest : r ≡ drop 1 (back 10 xs)
+  pub clear : Clear 10 l
+  pub whole : (l ++ (10 ∷ r) ≡ xs) ⊎ ((l ≡ xs) × (r ≡ []))
   pub lines : 0 < length xs → lines xs ≡ l ∷ lines r
   pub shorter : 0 < length xs → length r < length xs
 
 pub line-parts : (xs l r : List ℕ) → l ≡ front 10 xs → r ≡ drop 1 (back 10 xs) → Line xs l r
-line-parts xs l r p q = record {
-  line = p;
-  rest = q;
-  lines = λ h. let s = lines-split xs h in cc;
-  shorter = λ h. rw q (simp length-drop (omega (arith, back-le 10 xs)));
-}
+line-parts xs l r p q =
+    let w = parts 10 xs l (back 10 xs) p refl in
+    record {
+      clear = w .clear;
+      whole = rw q (feed xs l (back 10 xs) w);
+      lines = λ h. let s = lines-split xs h in cc;
+      shorter = λ h. rw q (simp length-drop (omega (arith, back-le 10 xs)));
+    }

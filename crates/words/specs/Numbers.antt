@@ -1,6 +1,6 @@
 -- Numbers and patterns as words: which word is read as which, and the eight digits that write a pattern.
 use mathlib.Core.Path.{_≡_}
-use mathlib.Core.List.{List, [], _∷_}
+use mathlib.Core.List.{List, [], _∷_, map}
 use mathlib.Core.Bool.{Bool, true, false, cond, not, _&&_}
 use Prim.Native.Nat.{ℕ, _+_, _-_, _*_, _/_, _%_, _<_}
 use lib.Dec.{eqb, leb, ltb}
@@ -35,11 +35,15 @@ pattern-of w = cond (eqb (length w) 8) (numeral 16 0 w) None
 abbrev pub glyph-of : ℕ → ℕ
 glyph-of d = cond (ltb d 10) (48 + d) (55 + d)
 
--- a pattern as eight hexadecimal digits, in capitals
+-- the eight hexadecimal digits of a pattern, the highest first
+abbrev pub digits-of : ℕ → List ℕ
+digits-of n =
+    n / 0x1000_0000 % 16 ∷ n / 0x100_0000 % 16 ∷ n / 0x10_0000 % 16 ∷ n / 0x1_0000 % 16 ∷ n / 0x1000 % 16 ∷ n / 0x100 % 16
+    ∷ n / 0x10 % 16 ∷ n % 16 ∷ []
+
+-- a pattern as a word, in capitals
 abbrev pub written : ℕ → List ℕ
-written n =
-    glyph-of (n / 0x1000_0000 % 16) ∷ glyph-of (n / 0x100_0000 % 16) ∷ glyph-of (n / 0x10_0000 % 16) ∷ glyph-of (n / 0x1_0000 % 16)
-    ∷ glyph-of (n / 0x1000 % 16) ∷ glyph-of (n / 0x100 % 16) ∷ glyph-of (n / 0x10 % 16) ∷ glyph-of (n % 16) ∷ []
+written n = map glyph-of (digits-of n)
 
 -- what a reader makes of a word is the number below the limit that is written so, and None where there is no such number
 abbrev pub Inverts : (ℕ → List ℕ) → ℕ → List ℕ → Option ℕ → Type 0

@@ -10,7 +10,8 @@ ghost use Rattle.words.specs.Words.{back, front};
 ghost use lib.Dec.{eqb, ltb};
 ghost use lib.ListN.{drop, getD, length};
 ghost use mathlib.Core.Bool.{_&&_, cond};
-ghost use mathlib.Core.List.{_++_, _∷_};
+ghost use mathlib.Core.List.{[], _++_, _∷_};
+ghost use mathlib.Core.Logic.{_⊎_};
 ghost use mathlib.Core.Path.{_≡_};
 
 /// Where the first `mark` stands in a text; the text's length where none does.
@@ -61,6 +62,8 @@ fn behind_first(text: &[u8]) -> &[u8]
 pub fn line(text: &[u8]) -> (&[u8], &[u8])
     ensures line { λ r. ⌜ now (r .0) ≡ front 10 (now (text .entry)) ⌝ }
     ensures rest { λ r. ⌜ now (r .1) ≡ drop 1 (back 10 (now (text .entry))) ⌝ }
+    ensures clear { λ r. ⌜ All (λ b. b ≡ 10 → ⊥) (now (r .0)) ⌝ }
+    ensures whole { λ r. ⌜ (now (r .0) ++ (10 ∷ now (r .1)) ≡ now (text .entry)) ⊎ ((now (r .0) ≡ now (text .entry)) × (now (r .1) ≡ [])) ⌝ }
     ensures lines { λ r. ⌜ (0 < length (now (text .entry)) → lines (now (text .entry)) ≡ now (r .0) ∷ lines (now (r .1))) ⌝ }
     ensures shorter { λ r. ⌜ (0 < length (now (text .entry)) → length (now (r .1)) < length (now (text .entry))) ⌝ }
 {

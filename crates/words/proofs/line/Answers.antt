@@ -5,5 +5,7 @@ use Rattle.words.proofs.line.Needs as need
 
 pub returns : need.returns
 returns c =
-    let p = line-parts (c .args .text .now) _ _ (c .cut .ensures .front) (c .behind-first .ensures ∙ ap (drop 1) (c .cut .ensures .back)) in
-    record { line = p .line; rest = p .rest; lines = p .lines; shorter = p .shorter }
+    let f = c .cut .ensures .front in
+    let b = c .behind-first .ensures ∙ ap (drop 1) (c .cut .ensures .back) in
+    let p = line-parts (c .args .text .now) _ _ f b in
+    record { line = f; rest = b; clear = p .clear; whole = p .whole; lines = p .lines; shorter = p .shorter }
