@@ -71,6 +71,7 @@ pub impl fmt::Display for Outcome as OutcomeDisplay {
     }
 }
 
+/// How a look names the sheet's state.
 fn state(settled: bool) -> &'static str
     ensures { λ r. ⌜ now r ≡ state-text settled ⌝ }
 {

@@ -1,6 +1,5 @@
 //! The commands of a script, and the reader that makes one of a line.
 
-ghost use Rattle.catalogue.specs.declared.types.Kind.{Kind};
 ghost use Rattle.commands.specs.Commands.{by-letter, command-of, enter-of, kind-by-letter, kind-of, left, limit-of, look-of, none-left, settle-of, taken};
 ghost use Rattle.commands.specs.Lines.{Reads};
 ghost use Rattle.std.specs.Options.{Cases as BySome, mapped};
@@ -61,6 +60,7 @@ fn lettered(letter: char, text: &[u8]) -> Option<Command>
     }
 }
 
+/// `L register low high`, without the letter.
 fn limit(text: &[u8]) -> Option<Command>
     ensures { λ r. ⌜ r ≡ limit-of (words (now (text .entry))) ⌝ }
 {
@@ -75,6 +75,7 @@ fn limit(text: &[u8]) -> Option<Command>
     })
 }
 
+/// `E place kind modes x y z`, without the letter.
 fn enter(text: &[u8]) -> Option<Command>
     ensures { λ r. ⌜ r ≡ enter-of (words (now (text .entry))) ⌝ }
 {
@@ -95,6 +96,7 @@ fn enter(text: &[u8]) -> Option<Command>
     })
 }
 
+/// `S budget`, without the letter.
 fn settle(text: &[u8]) -> Option<Command>
     ensures { λ r. ⌜ r ≡ settle-of (words (now (text .entry))) ⌝ }
 {
@@ -103,6 +105,7 @@ fn settle(text: &[u8]) -> Option<Command>
     Some(Command::Settle { budget })
 }
 
+/// `R register`, without the letter.
 fn look(text: &[u8]) -> Option<Command>
     ensures { λ r. ⌜ r ≡ look-of (words (now (text .entry))) ⌝ }
 {
@@ -180,6 +183,7 @@ fn kind(word: &[u8]) -> Option<Kind>
     }
 }
 
+/// The kind that a letter stands for.
 fn kind_lettered(letter: char) -> Option<Kind>
     ensures { λ r. ⌜ r ≡ kind-by-letter letter ⌝ }
 {

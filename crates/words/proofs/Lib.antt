@@ -1,4 +1,4 @@
-mod Steps
+mod Cuts
 pub mod Laws
 mod Numerals
 mod Inverses

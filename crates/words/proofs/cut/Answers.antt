@@ -1,6 +1,6 @@
 use mathlib.Core.Path.{_≡_, _∙_}
 use Rattle.words.specs.Words.{front, back}
-use Rattle.words.proofs.Steps.{cut-at}
+use Rattle.words.proofs.Cuts.{cut-at}
 use Rattle.words.proofs.Laws.{parts}
 use Rattle.words.proofs.cut.Needs as need
 
