@@ -1,7 +1,7 @@
 //! The answers to a script's commands, and their text.
 
 ghost use Prim.Native.Nat.{_<_};
-ghost use Rattle.answers.specs.Texts.{line-of, outcome-text, state-text, text-of};
+ghost use Rattle.answers.specs.Texts.{line-of, outcome-text, reply-of, state-text, text-of};
 ghost use Rattle.std.specs.Of.String.{string-bytes};
 ghost use Rattle.std.specs.Results.{isOk};
 ghost use Rattle.std.specs.declared.option.Option.the-variants.{Some};
@@ -10,16 +10,9 @@ ghost use mathlib.Core.Bool.{cond};
 ghost use mathlib.Core.List.{_++_};
 ghost use mathlib.Core.Path.{_≡_};
 use catalogue::types::Refusal;
+use sheet::table::Outcome;
 use std::alloc::AllocError;
 use std::fmt;
-
-/// How a settle ended.
-#[derive(Clone, Copy)]
-pub enum Outcome {
-    Settled,
-    Stopped,
-    Void,
-}
 
 /// What a command is answered.
 #[derive(Clone, Copy)]
@@ -32,14 +25,14 @@ pub enum Answer {
 
 /// Appends the answer's line to `out`, which stays as it was where memory is short.
 pub fn write(out: &mut String, answer: Answer) -> Result<(), AllocError>
-    ensures { λ r. ⌜ string-bytes (now (out .exit)) ≡ cond (isOk r) (string-bytes (now (out .entry)) ++ line-of answer) (string-bytes (now (out .entry))) ⌝ }
+    ensures { λ r. ⌜ string-bytes (now (out .exit)) ≡ cond (isOk r) (string-bytes (now (out .entry)) ++ line-of (reply-of answer)) (string-bytes (now (out .entry))) ⌝ }
 {
     let line = format!(out.allocator(), "{answer}\n")?;
     out.push_str(line.as_str())
 }
 
 pub impl fmt::Display for Answer as AnswerDisplay {
-    ghost shown = { λ a. Some (text-of a) };
+    ghost shown = { λ a. Some (text-of (reply-of a)) };
 
     fn fmt<W: fmt::Write>(&self, f: &mut fmt::Formatter<W>) -> fmt::Result {
         match *self {
@@ -48,7 +41,10 @@ pub impl fmt::Display for Answer as AnswerDisplay {
                 let number = refusal.number();
                 write!(f, "no {number}")
             }
-            Answer::Stepped { outcome, steps } => write!(f, "{outcome} {steps}"),
+            Answer::Stepped { outcome, steps } => {
+                let ended = ended(outcome);
+                write!(f, "{ended} {steps}")
+            }
             Answer::Shown { low, high, settled } => {
                 let low = Pattern(low);
                 let high = Pattern(high);
@@ -59,15 +55,14 @@ pub impl fmt::Display for Answer as AnswerDisplay {
     }
 }
 
-pub impl fmt::Display for Outcome as OutcomeDisplay {
-    ghost shown = { λ o. Some (outcome-text o) };
-
-    fn fmt<W: fmt::Write>(&self, f: &mut fmt::Formatter<W>) -> fmt::Result {
-        match *self {
-            Outcome::Settled => f.write_str("settled"),
-            Outcome::Stopped => f.write_str("stopped"),
-            Outcome::Void => f.write_str("void"),
-        }
+/// How a settle's answer names its outcome.
+fn ended(outcome: Outcome) -> &'static str
+    ensures { λ r. ⌜ now r ≡ outcome-text outcome ⌝ }
+{
+    match outcome {
+        Outcome::Settled => "settled",
+        Outcome::Stopped => "stopped",
+        Outcome::Void => "void",
     }
 }
 

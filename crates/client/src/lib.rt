@@ -1,7 +1,8 @@
 ghost use mathlib.Core.Path.{_≡_};
 ghost use Rattle.catalogue.specs.Refusals.{numbered};
-ghost use Rattle.client.specs.Clients.{peeked, stepped, tied, tied-table};
+ghost use Rattle.client.specs.Clients.{peeked, stepped};
 ghost use Rattle.counters.specs.Counters.{counter};
+ghost use Rattle.sheet.specs.Calls.{drawn-asked, drawn-table};
 ghost use Rattle.sheet.specs.Lines.{checked};
 use catalogue::types::Range;
 use catalogue::types::Refusal;
@@ -12,8 +13,8 @@ use sheet::sheet::Sheet;
 
 /// Draws a line, has it checked, and enters it.
 pub fn tie(sheet: &mut Sheet<Counter>, place: u32, line: DrawnLine) -> Result<(), Refusal>
-    ensures answer { λ r. ⌜ numbered r ≡ tied place (checked line) (now (sheet .entry) .table) ⌝ }
-    ensures table { λ _. ⌜ now (sheet .exit) .table ≡ tied-table counter place (checked line) (now (sheet .entry) .table) ⌝ }
+    ensures answer { λ r. ⌜ numbered r ≡ drawn-asked place (checked line) (now (sheet .entry) .table) ⌝ }
+    ensures table { λ _. ⌜ now (sheet .exit) .table ≡ drawn-table counter place (checked line) (now (sheet .entry) .table) ⌝ }
 {
     let line = line.check()?;
     match sheet.enter(place, line) {

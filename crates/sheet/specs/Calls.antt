@@ -14,6 +14,7 @@ use Rattle.catalogue.specs.declared.types.Refusal.{Refusal}
 use Rattle.catalogue.specs.Meanings.{Meaning}
 use Rattle.catalogue.specs.Refusals.{number-of}
 use Rattle.sheet.specs.declared.lines.CheckedLine.{CheckedLine}
+use Rattle.sheet.specs.declared.lines.Line.{Line}
 use Rattle.sheet.specs.declared.table.Outcome.{Outcome}
 use Rattle.sheet.specs.declared.table.Outcome.the-variants as outcome
 use Rattle.sheet.specs.declared.table.State.{State}
@@ -51,6 +52,16 @@ enter-asked n l t = cond (ltb 63 n) (Err (7, l)) (cond (has (t .standing) n) (Er
 
 abbrev pub enter-table : Meaning → ℕ → CheckedLine → Table → Table
 enter-table m n l t = cond (ltb 63 n || has (t .standing) n) t (entered m n (l .line) t)
+
+-- ---- a drawn line, checked first and then entered: what a caller of both is answered, and leaves
+
+abbrev pub drawn-asked : ℕ → Result Line ℕ → Table → Result (Unit {0}) ℕ
+drawn-asked n (Err e) t = Err e
+drawn-asked n (Ok l) t = cond (ltb 63 n) (Err 7) (cond (has (t .standing) n) (Err 6) (Ok tt))
+
+abbrev pub drawn-table : Meaning → ℕ → Result Line ℕ → Table → Table
+drawn-table m n (Err e) t = t
+drawn-table m n (Ok l) t = cond (ltb 63 n) t (cond (has (t .standing) n) t (entered m n l t))
 
 -- ---- settle: the budget (8)
 

@@ -3,6 +3,7 @@ pub mod lines;
 pub mod table;
 pub mod sheet;
 mod checks;
+pub use crate::checks::kind_number;
 mod sets;
 mod rules;
 mod events;

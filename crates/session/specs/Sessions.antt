@@ -1,0 +1,88 @@
+-- A script and its answers: what each command is answered and leaves on the sheet, and what a whole script is answered.
+use Prim.Native.Nat.{ℕ}
+use mathlib.Core.Bool.{Bool, cond}
+use mathlib.Core.List.{List, [], _∷_, _++_}
+use lib.Chars.{codes}
+use lib.Dec.{eqb, ltb}
+use lib.ListN.{length, drop}
+use Rattle.std.specs.declared.option.Option.{Option}
+use Rattle.std.specs.declared.option.Option.the-variants.{Some, None}
+use Rattle.std.specs.declared.result.Result.{Result}
+use Rattle.std.specs.declared.result.Result.the-variants.{Ok, Err}
+use Rattle.catalogue.specs.declared.types.Kind.{Kind}
+use Rattle.catalogue.specs.Meanings.{Meaning}
+use Rattle.counters.specs.Counters.{counter}
+use Rattle.sheet.specs.declared.lines.DrawnLine.{DrawnLine}
+use Rattle.sheet.specs.declared.table.Outcome.{Outcome}
+use Rattle.sheet.specs.declared.table.Table.{Table}
+use Rattle.sheet.specs.Calls.{done, drawn-asked, drawn-table, limit-asked, limit-table, settle-asked, settle-table, is-void, is-settled, shown, in-patterns}
+use Rattle.sheet.specs.Lines.{checked, kind-number}
+use Rattle.sheet.specs.Rules.{new-table}
+use Rattle.words.specs.Lines.{lines}
+use Rattle.words.specs.Words.{front, back}
+use Rattle.commands.specs.declared.Command.{Command}
+use Rattle.commands.specs.declared.Command.the-variants.{Limit, Enter, Settle, Look}
+use Rattle.commands.specs.Commands.{command-of}
+use Rattle.session.specs.declared.Board.{Board}
+use Rattle.session.specs.declared.Board.the-variants.{Counter}
+use Rattle.answers.specs.Texts.{Reply, ok, refused, stepped, shown as shows, line-of}
+
+-- ---- one command
+
+-- ok, or the refusal
+abbrev pub ok-or : Result (Unit {0}) ℕ → Reply
+ok-or (Ok x) = ok
+ok-or (Err e) = refused e
+
+-- the line that an enter draws
+abbrev pub drawn : Kind → ℕ → ℕ → ℕ → ℕ → DrawnLine
+drawn k s x y z = record { kind = kind-number k; modes = s; x = x; y = y; z = z }
+
+abbrev pub stepped-or : Result (Outcome × ℕ) ℕ → Reply
+stepped-or (Ok p) = stepped (p .0) (p .1)
+stepped-or (Err e) = refused e
+
+abbrev pub shown-or : Bool → Result (ℕ × ℕ) ℕ → Reply
+shown-or settled (Ok p) = shows (p .0) (p .1) settled
+shown-or settled (Err e) = refused e
+
+abbrev pub looked : Meaning → ℕ → Table → Reply
+looked m r t = cond (is-void (t .state)) (refused 9) (shown-or (is-settled (t .state)) (in-patterns m (shown r t)))
+
+-- what a line of a script is answered; one that stands for no command is unreadable
+abbrev pub replied : Meaning → Option Command → Table → Reply
+replied m None t = refused 10
+replied m (Some (Limit r low high)) t = ok-or (done (limit-asked m r low high))
+replied m (Some (Enter n k s x y z)) t = ok-or (drawn-asked n (checked (drawn k s x y z)) t)
+replied m (Some (Settle b)) t = stepped-or (settle-asked m b t)
+replied m (Some (Look r)) t = looked m r t
+
+-- the table that it leaves
+abbrev pub table-after : Meaning → Option Command → Table → Table
+table-after m None t = t
+table-after m (Some (Limit r low high)) t = limit-table m r (limit-asked m r low high) t
+table-after m (Some (Enter n k s x y z)) t = drawn-table m n (checked (drawn k s x y z)) t
+table-after m (Some (Settle b)) t = settle-table m b t
+table-after m (Some (Look r)) t = t
+
+-- ---- a whole script
+
+-- the answers to lines, one line each, on a sheet with the table t
+abbrev pub answers : Meaning → List (List ℕ) → Table → List ℕ
+answers m [] t = []
+answers m (l ∷ ls) t = line-of (replied m (command-of l) t) ++ answers m ls (table-after m (command-of l) t)
+
+-- the first line names the catalogue: C, for counters
+abbrev pub board-of : List ℕ → Option Board
+board-of [] = None
+board-of (b ∷ []) = cond (eqb b 67) (Some Counter) None
+board-of (b ∷ c ∷ bs) = None
+
+-- the answers to a script over a catalogue; a script that names none is unreadable as a whole
+abbrev pub by-board : Option Board → List (List ℕ) → List ℕ
+by-board None ls = line-of (refused 10)
+by-board (Some Counter) ls = answers counter ls (new-table counter)
+
+-- what is written for an input; one that is too long is answered as a whole
+abbrev pub written-for : List ℕ → List ℕ
+written-for input = cond (ltb 65536 (length input)) (line-of (refused 10)) (by-board (board-of (front 10 input)) (lines (drop 1 (back 10 input))))
