@@ -38,7 +38,7 @@ module _ (s : Modes) (p : Mode → Bool) where
   mode-of e =
       let here : (m : Mode) → By m ≡ true → (n : Mode) × (has-mode s n ≡ true) × (p n ≡ true) = λ m h. let q = and-parts (has-mode s m) (p m) h in (m, q .0, q .1) in
       ⊎-elim (here Nearest) (λ f. ⊎-elim (here Up) (λ g. ⊎-elim (here Down) (here TowardZero) (or-cases (By Down) (By TowardZero) g))
-        (or-cases (By Up) (By Down || By TowardZero) f)) (or-cases (By Nearest) (By Up || (By Down || By TowardZero)) e)
+      (or-cases (By Up) (By Down || By TowardZero) f)) (or-cases (By Nearest) (By Up || (By Down || By TowardZero)) e)
 
   pub mode-in : (m : Mode) → has-mode s m ≡ true → p m ≡ true → some-mode s p ≡ true
   mode-in Nearest h e = or-left (By Nearest) _ (and-from (has-mode s Nearest) (p Nearest) h e)

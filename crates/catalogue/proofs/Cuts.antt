@@ -71,6 +71,6 @@ module _ (a : Arith) where
   pub narrowed-by : (k : Kind) (s : Modes) (t : Triple) (n f : ℤ) (w u : Range) (x y z : Option Range) → n ≡ y-for-least k (t .y) → f ≡ y-for-greatest k (t .y) → w ≡ results a k s (t .x) (t .y) → u ≡ meet (t .z) w → x ≡ kept a k s X (t .x) n f (t .z) → y ≡ kept a k s Y (t .y) (t .x .low) (t .x .high) (t .z) → z ≡ unless-empty u → all-three x y z ≡ narrowed-readings a k s t
   narrowed-by k s t n f w u x y z en ef ew eu ex ey ez =
       same-three x _ y _ z _
-        (ex ∙ ap (λ v. kept a k s X (t .x) v f (t .z)) en ∙ ap (λ v. kept a k s X (t .x) (y-for-least k (t .y)) v (t .z)) ef)
-        ey
-        (ez ∙ ap unless-empty (eu ∙ ap (meet (t .z)) ew))
+      (ex ∙ ap (λ v. kept a k s X (t .x) v f (t .z)) en ∙ ap (λ v. kept a k s X (t .x) (y-for-least k (t .y)) v (t .z)) ef)
+      ey
+      (ez ∙ ap unless-empty (eu ∙ ap (meet (t .z)) ew))

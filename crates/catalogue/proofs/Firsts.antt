@@ -30,10 +30,10 @@ halved-is q st (suc j) base below end =
     let m = base + 2 ^ j - 1 in
     let pw = pow-pos j in
     cond-both (q m) base (base + 2 ^ j) (λ b. Least q (halved q j b))
-      (λ e. halved-is q st j base below e)
-      (λ e. halved-is q st j (base + 2 ^ j)
-        (λ i lt. not-passed (q i) (λ t. both-ways (q m) e (st i m (omega arith) t)))
-        (let eq : base + 2 ^ suc j - 1 ≡ base + 2 ^ j + 2 ^ j - 1 = omega (arith, two-pow-succ j) in subst (λ i. q i ≡ true) eq end))
+    (λ e. halved-is q st j base below e)
+    (λ e. halved-is q st j (base + 2 ^ j)
+    (λ i lt. not-passed (q i) (λ t. both-ways (q m) e (st i m (omega arith) t)))
+    (let eq : base + 2 ^ suc j - 1 ≡ base + 2 ^ j + 2 ^ j - 1 = omega (arith, two-pow-succ j) in subst (λ i. q i ≡ true) eq end))
 
 module _ (p : ℕ → Bool) (n : ℕ) (st : Stays p n) where
   abbrev q : ℕ → Bool
@@ -47,8 +47,8 @@ module _ (p : ℕ → Bool) (n : ℕ) (st : Stays p n) where
 
   q-keeps : Keeps q
   q-keeps j k le e = ⊎-elim
-    (λ (lt : k < n). q-is k lt ∙ st j k le (omega arith) (sym (q-is j (omega arith)) ∙ e))
-    (λ (ge : n ≤ k). q-end k ge) (cases-lt k n)
+      (λ (lt : k < n). q-is k lt ∙ st j k le (omega arith) (sym (q-is j (omega arith)) ∙ e))
+      (λ (ge : n ≤ k). q-end k ge) (cases-lt k n)
 
   -- n at most, where all before fail
   pub picked-is : (k : ℕ) → Least q k → First p n (picked p k)
@@ -58,8 +58,10 @@ module _ (p : ℕ → Bool) (n : ℕ) (st : Stays p n) where
     where
       le : k ≤ n
       le = ⊎-elim (λ (lt : n < k). absurd (both-ways (q n) (l .1 n lt) (q-end n (omega arith)))) (λ h. h) (cases-lt n k)
+
       before : (j : ℕ) → j < k → p j ≡ false
       before j lt = sym (q-is j (omega (arith, le))) ∙ l .1 j lt
+
       same : p k ≡ false → (j : ℕ) → j ≤ n → k ≤ j → k ≡ j
       same e j jn ge = ⊎-elim (λ (lt : k < n). absurd (both-ways (p k) e (sym (q-is k lt) ∙ l .0))) (λ (h : n ≤ k). omega arith) (cases-lt k n)
 

@@ -80,7 +80,7 @@ module _ (a : Arith) (laws : ArithLaws a) (m : Mode) (x z : ℤ) (rx : Reading a
         cond-both (equal (span-of a k (only m) x e .least) z) (Some e) None (FoundIn y Meets)
         (λ t. (h .0, sym (true-equal _ _ t) ∙ here))
         (λ t v i q. let s = first-met k e v (reads e (h .0)) (h .2 v i (met k v (reads v i) q)) (h .1 e (h .0) (omega (arith, ints))) q in
-              both-ways (equal (span-of a k (only m) x e .least) z) t (equal-true _ _ (here ∙ s)))
+        both-ways (equal (span-of a k (only m) x e .least) z) t (equal-true _ _ (here ∙ s)))
 
     abbrev By : Modes → ℤ → Type 0
     By s v = (has-mode s m ≡ true) × (z ≡ a .result k m x v)
@@ -134,15 +134,15 @@ module _ (a : Arith) (laws : ArithLaws a) (k : Kind) (s : Modes) (x z : ℤ) (rx
       cond-both (leZ (c .low) (c .high)) (Some c) None (λ o. SomeOf y P (partner-in a k s x z o))
       (λ e. let so = cut-sound-of a y (le-true (c .low) (c .high) e) in widen y so _ (four c so))
       (λ e v i h. let b = allowed-by a k s x v z h in let r = b .y-reads in
-          both-ways (leZ (c .low) (c .high)) e (true-le (c .low) (c .high) (omega (arith, ints, clamps, i .0, i .1, r .0, r .1))))
+      both-ways (leZ (c .low) (c .high)) e (true-le (c .low) (c .high) (omega (arith, ints, clamps, i .0, i .1, r .0, r .1))))
 
 module _ (a : Arith) (laws : ArithLaws a) (k : Kind) (s : Modes) (x z : ℤ) (y : Range) where
   pub partnered-is : SomeOf y (λ v. allowed a k s x v z) (partnered a k s x z y)
   partnered-is = cond-both (holds (readings a) x && holds (readings a) z) _ None (SomeOf y (λ v. allowed a k s x v z))
       (λ e. let h = and-parts (holds (readings a) x) (holds (readings a) z) e in in-is a laws k s x z (holds-true _ x (h .0)) (holds-true _ z (h .1)) y)
       (λ e v i h. let p = and-parts ((holds (readings a) x && (holds (readings a) v && holds (readings a) z))) _ h in
-          let q = and-parts (holds (readings a) x) (holds (readings a) v && holds (readings a) z) (p .0) in
-          both-ways (holds (readings a) x && holds (readings a) z) e (and-from (holds (readings a) x) (holds (readings a) z) (q .0) (and-parts (holds (readings a) v) (holds (readings a) z) (q .1) .1)))
+      let q = and-parts (holds (readings a) x) (holds (readings a) v && holds (readings a) z) (p .0) in
+      both-ways (holds (readings a) x && holds (readings a) z) e (and-from (holds (readings a) x) (holds (readings a) z) (q .0) (and-parts (holds (readings a) v) (holds (readings a) z) (q .1) .1)))
 
   -- what the code has in hand
   pub partnered-then : (o : Option ℤ) → (holds (readings a) x && holds (readings a) z) ≡ true → o ≡ partner-in a k s x z (unless-empty (meet (readings a) y)) → o ≡ partnered a k s x z y
@@ -157,5 +157,6 @@ proper-some r c e = at (unless-empty c) (cond-both (leZ (c .low) (c .high)) (Som
     Good : Option Range → Type 0
     Good None = Unit {0}
     Good (Some w) = Proper w
+
     at : (o : Option Range) → Good o → o ≡ Some r → Proper r
     at o h q = subst Good q h

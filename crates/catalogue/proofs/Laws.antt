@@ -64,10 +64,11 @@ module _ (a : Arith) (laws : ArithLaws a) where
   module _ (k : Kind) (s : Modes) where
     inside : (t : Triple) (r : Option Triple) → Narrows a k s t r → WithinO r (Some t)
     inside t None h = tt
-    inside t (Some r) h =
-        ( inside-of _ (r .x) (t .x) (h .0) (λ v p. cut-holds a (t .x) v (p .0))
-        , inside-of _ (r .y) (t .y) (h .1) (λ v p. cut-holds a (t .y) v (p .0))
-        , inside-of _ (r .z) (t .z) (h .2) (λ v p. cut-holds a (t .z) v (p .0)))
+    inside t (Some r) h = (
+      inside-of _ (r .x) (t .x) (h .0) (λ v p. cut-holds a (t .x) v (p .0)),
+      inside-of _ (r .y) (t .y) (h .1) (λ v p. cut-holds a (t .y) v (p .0)),
+      inside-of _ (r .z) (t .z) (h .2) (λ v p. cut-holds a (t .z) v (p .0)),
+    )
 
     -- larger ranges keep more
     wider-x : (c d : Triple) → Within3 c d → (v : ℤ) → KeepsX a k s c v → KeepsX a k s d v
@@ -94,13 +95,14 @@ module _ (a : Arith) (laws : ArithLaws a) where
     steady-readings c d None u w p q = tt
     steady-readings c d (Some r) None w p q =
         q (r .x .low) (r .y .low) (r .z .low)
-          (wider-x c d w _ (p .0 .only _ (≤ℤ-refl _, p .0 .some)))
-          (wider-y c d w _ (p .1 .only _ (≤ℤ-refl _, p .1 .some)))
-          (wider-z c d w _ (p .2 .only _ (≤ℤ-refl _, p .2 .some)))
-    steady-readings c d (Some r) (Some u) w p q =
-        ( inside-of _ (r .x) (u .x) (p .0) (λ v h. q .0 .all v (wider-x c d w v h))
-        , inside-of _ (r .y) (u .y) (p .1) (λ v h. q .1 .all v (wider-y c d w v h))
-        , inside-of _ (r .z) (u .z) (p .2) (λ v h. q .2 .all v (wider-z c d w v h)))
+        (wider-x c d w _ (p .0 .only _ (≤ℤ-refl _, p .0 .some)))
+        (wider-y c d w _ (p .1 .only _ (≤ℤ-refl _, p .1 .some)))
+        (wider-z c d w _ (p .2 .only _ (≤ℤ-refl _, p .2 .some)))
+    steady-readings c d (Some r) (Some u) w p q = (
+      inside-of _ (r .x) (u .x) (p .0) (λ v h. q .0 .all v (wider-x c d w v h)),
+      inside-of _ (r .y) (u .y) (p .1) (λ v h. q .1 .all v (wider-y c d w v h)),
+      inside-of _ (r .z) (u .z) (p .2) (λ v h. q .2 .all v (wider-z c d w v h)),
+    )
 
     -- an allowed triple is kept by each rule
     module _ (t : Triple) (x y z : ℤ) (w : AllowedBy a k s x y z) (h : Holds3 t x y z) where
@@ -109,24 +111,31 @@ module _ (a : Arith) (laws : ArithLaws a) where
 
       hx : Holds (c .x) x
       hx = holds-cut a (t .x) x (w .x-reads) (h .0)
+
       hy : Holds (c .y) y
       hy = holds-cut a (t .y) y (w .y-reads) (h .1)
+
       hz : Holds (c .z) z
       hz = holds-cut a (t .z) z (w .z-reads) (h .2)
 
       under : least-result a k s x y ≤ℤ z
       under = subst (λ v. least-result a k s x y ≤ℤ v) (sym (w .is)) (least-le s (λ m. a .result k m x y) (w .mode) (w .among))
+
       over : z ≤ℤ greatest-result a k s x y
       over = subst (λ v. v ≤ℤ greatest-result a k s x y) (sym (w .is)) (greatest-ge s (λ m. a .result k m x y) (w .mode) (w .among))
 
       keeps-x : KeepsX a k s c x
       keeps-x = (hx, trans _ _ _ (hz .0) (trans _ _ _ over (y-greatest-in k s x y (c .y) hy)), trans _ _ _ (trans _ _ _ (y-least-in k s x y (c .y) hy) under) (hz .1))
+
       keeps-y : KeepsY a k s c y
       keeps-y = (hy, trans _ _ _ (hz .0) (trans _ _ _ over (greatest-x a laws k s x (c .x .high) y (hx .1))), trans _ _ _ (trans _ _ _ (least-x a laws k s (c .x .low) x y (hx .0)) under) (hz .1))
+
       keeps-z : KeepsZ a k s c z
-      keeps-z = (hz
-        , trans _ _ _ (trans _ _ _ (least-x a laws k s (c .x .low) x (y-for-least k (c .y)) (hx .0)) (y-least-in k s x y (c .y) hy)) under
-        , trans _ _ _ over (trans _ _ _ (y-greatest-in k s x y (c .y) hy) (greatest-x a laws k s x (c .x .high) (y-for-greatest k (c .y)) (hx .1))))
+      keeps-z = (
+        hz,
+        trans _ _ _ (trans _ _ _ (least-x a laws k s (c .x .low) x (y-for-least k (c .y)) (hx .0)) (y-least-in k s x y (c .y) hy)) under,
+        trans _ _ _ over (trans _ _ _ (y-greatest-in k s x y (c .y) hy) (greatest-x a laws k s x (c .x .high) (y-for-greatest k (c .y)) (hx .1))),
+      )
 
       kept : (r : Option Triple) → Narrows a k s t r → HoldsO r x y z
       kept None n = n x y z keeps-x keeps-y keeps-z

@@ -15,4 +15,5 @@ ranked-laws a read write l p = record {
   inside = narrowed-inside a l;
   kept = narrowed-kept a l;
   steady = narrowed-steady a l;
-  partner = partnered-is a l }
+  partner = partnered-is a l;
+}

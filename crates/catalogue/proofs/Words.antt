@@ -81,10 +81,11 @@ module _ (p : ℤ → Bool) (b : Bool) (r : Range) (le : r .low ≤ℤ r .high) 
 
   reached-is : (o : Option ℕ) → First q (extent r) o → Edge b r p (reached b (origin b r) o)
   reached-is None h = λ v hv. let s = steps-is b r v hv in ap p (s .0) ∙ h (steps b r v) (s .1)
-  reached-is (Some k) h =
-      ( on-holds b r k le (h .0)
-      , (λ v hv pv. let s = steps-is b r v hv in ap p (s .0) ∙ st k (steps b r v) (past-on b (origin b r) k (steps b r v) (subst (Past b (moved b (origin b r) k)) (s .0) pv)) (h .1))
-      , (λ v hv t. let s = steps-is b r v hv in subst (Past b (moved b (origin b r) k)) (sym (s .0)) (on-past b (origin b r) k (steps b r v) (least v hv t s))))
+  reached-is (Some k) h = (
+    on-holds b r k le (h .0),
+    (λ v hv pv. let s = steps-is b r v hv in ap p (s .0) ∙ st k (steps b r v) (past-on b (origin b r) k (steps b r v) (subst (Past b (moved b (origin b r) k)) (s .0) pv)) (h .1)),
+    (λ v hv t. let s = steps-is b r v hv in subst (Past b (moved b (origin b r) k)) (sym (s .0)) (on-past b (origin b r) k (steps b r v) (least v hv t s))),
+  )
     where
       least : (v : ℤ) → Holds r v → p v ≡ true → (v ≡ moved b (origin b r) (steps b r v)) × (steps b r v ≤ extent r) → k ≤ steps b r v
       least v hv t s = ⊎-elim (λ (lt : steps b r v < k). absurd (both-ways (q (steps b r v)) (h .2 (steps b r v) lt) (sym (ap p (s .0)) ∙ t))) (λ l. l) (cases-lt (steps b r v) k)
@@ -95,8 +96,8 @@ module _ (a : Arith) (laws : ArithLaws a) where
   edge-is q r s =
       let f = origin (rises q) r in
       reached-is (passes a q) (rises q) r (s .2) (on a laws q f (rises q) refl)
-        (first (λ k. passes a q (moved (rises q) f k)) (extent r))
-        (first-is (λ k. passes a q (moved (rises q) f k)) (extent r) (stays a laws q f (extent r)) (extent-fits r (reading-fits a laws _ (s .0)) (reading-fits a laws _ (s .1)) (s .2)))
+      (first (λ k. passes a q (moved (rises q) f k)) (extent r))
+      (first-is (λ k. passes a q (moved (rises q) f k)) (extent r) (stays a laws q f (extent r)) (extent-fits r (reading-fits a laws _ (s .0)) (reading-fits a laws _ (s .1)) (s .2)))
 
 -- ---- ranges that hold exactly what is kept
 abbrev pub ExactlyO : (ℤ → Type 0) → Option Range → Type 0
@@ -131,9 +132,9 @@ module _ (r : Range) (p q : ℤ → Bool) where
   between-is (Some l) (Some h) a b =
       let s : Range = record { low = l; high = h } in
       exactly-map (Holds s) Both
-        (λ v k. let w : Holds r v = (omega (arith, ints, a .0 .0, k .0), omega (arith, ints, b .0 .1, k .1)) in (w, a .1 v w (k .0), b .1 v w (k .1)))
-        (λ v k. (a .2 v (k .0) (k .1), b .2 v (k .0) (k .2)))
-        (unless-empty s) (unless-empty-is s)
+      (λ v k. let w : Holds r v = (omega (arith, ints, a .0 .0, k .0), omega (arith, ints, b .0 .1, k .1)) in (w, a .1 v w (k .0), b .1 v w (k .1)))
+      (λ v k. (a .2 v (k .0) (k .1), b .2 v (k .0) (k .2)))
+      (unless-empty s) (unless-empty-is s)
 
 kept-is : (a : Arith) → ArithLaws a → (k : Kind) (s : Modes) (p : Operand) (r : Range) → Sound a r → (n f : ℤ) (z : Range) → ExactlyO (λ v. Holds r v × (passes a (reaches k s p f z) v ≡ true) × (passes a (stays-in k s p n z) v ≡ true)) (kept a k s p r n f z)
 kept-is a laws k s X r so n f z = between-is r _ _ _ _ (edge-is a laws (reaches k s X f z) r so) (edge-is a laws (stays-in k s X n z) r so)
@@ -177,9 +178,9 @@ module _ (a : Arith) (laws : ArithLaws a) (k : Kind) (s : Modes) where
       let n = for-least-reads a k (c .y) (so .1) in
       exactly-map _ (KeepsX a k s c)
       (λ v h. let r = within-reads a (c .x) v (so .0) (h .0) in
-        (h .0, to-readings a (Reach (c .z .low)) v _ r f (le-true _ _ (h .1)), to-readings a (Stay (c .z .high)) v _ r n (le-true _ _ (h .2))))
+      (h .0, to-readings a (Reach (c .z .low)) v _ r f (le-true _ _ (h .1)), to-readings a (Stay (c .z .high)) v _ r n (le-true _ _ (h .2))))
       (λ v h. let r = within-reads a (c .x) v (so .0) (h .0) in
-        (h .0, true-le _ _ (from-readings a (Reach (c .z .low)) v _ r f (h .1)), true-le _ _ (from-readings a (Stay (c .z .high)) v _ r n (h .2))))
+      (h .0, true-le _ _ (from-readings a (Reach (c .z .low)) v _ r f (h .1)), true-le _ _ (from-readings a (Stay (c .z .high)) v _ r n (h .2))))
       _ (kept-is a laws k s X (c .x) (so .0) (y-for-least k (c .y)) (y-for-greatest k (c .y)) (c .z))
 
   y-is : (c : Triple) → Sound3 a c → ExactlyO (KeepsY a k s c) (kept a k s Y (c .y) (c .x .low) (c .x .high) (c .z))
@@ -187,9 +188,9 @@ module _ (a : Arith) (laws : ArithLaws a) (k : Kind) (s : Modes) where
   y-is c so =
       exactly-map _ (KeepsY a k s c)
       (λ v h. let r = within-reads a (c .y) v (so .1) (h .0) in
-        (h .0, to-readings a (Reach (c .z .low)) _ v (so .0 .1) r (le-true _ _ (h .1)), to-readings a (Stay (c .z .high)) _ v (so .0 .0) r (le-true _ _ (h .2))))
+      (h .0, to-readings a (Reach (c .z .low)) _ v (so .0 .1) r (le-true _ _ (h .1)), to-readings a (Stay (c .z .high)) _ v (so .0 .0) r (le-true _ _ (h .2))))
       (λ v h. let r = within-reads a (c .y) v (so .1) (h .0) in
-        (h .0, true-le _ _ (from-readings a (Reach (c .z .low)) _ v (so .0 .1) r (h .1)), true-le _ _ (from-readings a (Stay (c .z .high)) _ v (so .0 .0) r (h .2))))
+      (h .0, true-le _ _ (from-readings a (Reach (c .z .low)) _ v (so .0 .1) r (h .1)), true-le _ _ (from-readings a (Stay (c .z .high)) _ v (so .0 .0) r (h .2))))
       _ (kept-is a laws k s Y (c .y) (so .1) (c .x .low) (c .x .high) (c .z))
 
   z-is : (c : Triple) → Sound3 a c → ExactlyO (KeepsZ a k s c) (unless-empty (meet (c .z) (results a k s (c .x) (c .y))))
@@ -228,12 +229,12 @@ module _ (a : Arith) (laws : ArithLaws a) (k : Kind) (s : Modes) where
       let c = cut-to-readings a t in
       let N : Option Range → Option Range → Option Range → Type 0 = λ x y z. NarrowsReadings a k s c (narrowed-cut a k s (all-three x y z)) in
       ⊎-elim (λ (x : Full (c .x)). subst (λ o. N o (unless-empty (c .y)) (unless-empty (c .z))) (sym (x .0))
-        (⊎-elim (λ (y : Full (c .y)). subst (λ o. N (Some (c .x)) o (unless-empty (c .z))) (sym (y .0))
-          (⊎-elim (λ (z : Full (c .z)). subst (λ o. N (Some (c .x)) (Some (c .y)) o) (sym (z .0))
-              (readings-are c (cut-sound-of a (t .x) (x .1), cut-sound-of a (t .y) (y .1), cut-sound-of a (t .z) (z .1))))
-            (λ (z : Empty (c .z)). subst (λ o. N (Some (c .x)) (Some (c .y)) o) (sym (z .0)) (λ u v w i j l. z .1 w (l .0)))
-            (full-or-empty (c .z))))
-          (λ (y : Empty (c .y)). subst (λ o. N (Some (c .x)) o (unless-empty (c .z))) (sym (y .0)) (λ u v w i j l. y .1 v (j .0)))
-          (full-or-empty (c .y))))
-        (λ (x : Empty (c .x)). subst (λ o. N o (unless-empty (c .y)) (unless-empty (c .z))) (sym (x .0)) (λ u v w i j l. x .1 u (i .0)))
-        (full-or-empty (c .x))
+      (⊎-elim (λ (y : Full (c .y)). subst (λ o. N (Some (c .x)) o (unless-empty (c .z))) (sym (y .0))
+      (⊎-elim (λ (z : Full (c .z)). subst (λ o. N (Some (c .x)) (Some (c .y)) o) (sym (z .0))
+      (readings-are c (cut-sound-of a (t .x) (x .1), cut-sound-of a (t .y) (y .1), cut-sound-of a (t .z) (z .1))))
+      (λ (z : Empty (c .z)). subst (λ o. N (Some (c .x)) (Some (c .y)) o) (sym (z .0)) (λ u v w i j l. z .1 w (l .0)))
+      (full-or-empty (c .z))))
+      (λ (y : Empty (c .y)). subst (λ o. N (Some (c .x)) o (unless-empty (c .z))) (sym (y .0)) (λ u v w i j l. y .1 v (j .0)))
+      (full-or-empty (c .y))))
+      (λ (x : Empty (c .x)). subst (λ o. N o (unless-empty (c .y)) (unless-empty (c .z))) (sym (x .0)) (λ u v w i j l. x .1 u (i .0)))
+      (full-or-empty (c .x))

@@ -53,8 +53,14 @@ rank-or-2 (Some v) = Ok v
 -- the meaning of a catalogue that narrows an arithmetic by the one narrowing text
 abbrev pub by-ranks : Arith → (ℕ → Option ℤ) → (ℤ → ℕ) → Meaning
 by-ranks a reads writes = record {
-  least = a .least; greatest = a .greatest; reads = reads; writes = writes;
-  allowed = allowed a; narrowed = narrowed a; partner = partnered a }
+  least = a .least;
+  greatest = a .greatest;
+  reads = reads;
+  writes = writes;
+  allowed = allowed a;
+  narrowed = narrowed a;
+  partner = partnered a;
+}
 
 -- what such a catalogue owes of its patterns
 pub record Patterns (a : Arith) (read : ℕ → Option ℤ) (write : ℤ → ℕ) : Type 0 where

@@ -36,15 +36,15 @@ greater-if b v w = cond b (maxZ v w) v
 unfoldable pub least-of : Modes → (Mode → ℤ) → ℤ
 least-of s f =
     lesser-if (has-mode s TowardZero)
-      (lesser-if (has-mode s Down) (lesser-if (has-mode s Up) (f (first-mode s)) (f Up)) (f Down))
-      (f TowardZero)
+    (lesser-if (has-mode s Down) (lesser-if (has-mode s Up) (f (first-mode s)) (f Up)) (f Down))
+    (f TowardZero)
 
 -- the greatest rank that a mode of the set gives
 unfoldable pub greatest-of : Modes → (Mode → ℤ) → ℤ
 greatest-of s f =
     greater-if (has-mode s TowardZero)
-      (greater-if (has-mode s Down) (greater-if (has-mode s Up) (f (first-mode s)) (f Up)) (f Down))
-      (f TowardZero)
+    (greater-if (has-mode s Down) (greater-if (has-mode s Up) (f (first-mode s)) (f Up)) (f Down))
+    (f TowardZero)
 
 -- the set of one mode alone
 abbrev pub only : Mode → Modes

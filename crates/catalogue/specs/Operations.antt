@@ -43,7 +43,8 @@ nearest-reading a v = minZ (maxZ v (a .least)) (a .greatest)
 abbrev pub span-of : Arith → Kind → Modes → ℤ → ℤ → Span
 span-of a k s x y = record {
   least = least-result a k s (nearest-reading a x) (nearest-reading a y);
-  greatest = greatest-result a k s (nearest-reading a x) (nearest-reading a y) }
+  greatest = greatest-result a k s (nearest-reading a x) (nearest-reading a y);
+}
 
 -- whether the results of a kind fall, and do not rise, as y grows
 abbrev pub falls-in-y : Kind → Bool

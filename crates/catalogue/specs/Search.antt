@@ -89,14 +89,15 @@ stays-in k s p other z = record { kind = k; modes = s; operand = p; other = othe
 abbrev pub kept : Arith → Kind → Modes → Operand → Range → ℤ → ℤ → Range → Option Range
 kept a k s p r for-least for-greatest z =
     cond (rises (reaches k s p for-greatest z))
-      (between (edge a (reaches k s p for-greatest z) r) (edge a (stays-in k s p for-least z) r))
-      (between (edge a (stays-in k s p for-least z) r) (edge a (reaches k s p for-greatest z) r))
+    (between (edge a (reaches k s p for-greatest z) r) (edge a (stays-in k s p for-least z) r))
+    (between (edge a (stays-in k s p for-least z) r) (edge a (reaches k s p for-greatest z) r))
 
 -- the results that two ranges can have
 abbrev pub results : Arith → Kind → Modes → Range → Range → Range
 results a k s x y = record {
   low = span-of a k s (x .low) (y-for-least k y) .least;
-  high = span-of a k s (x .high) (y-for-greatest k y) .greatest }
+  high = span-of a k s (x .high) (y-for-greatest k y) .greatest;
+}
 
 -- the given ranges cut to the readings, unless one is empty
 abbrev pub cut : Arith → Triple → Option Triple

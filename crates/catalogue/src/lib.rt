@@ -1,9 +1,9 @@
-pub mod types;
-pub mod refusals;
-pub mod modes;
-pub mod ranges;
 pub mod arithmetic;
-pub mod search;
+pub mod interface;
+pub mod modes;
 pub mod narrowing;
 pub mod partners;
-pub mod interface;
+pub mod ranges;
+pub mod refusals;
+pub mod search;
+pub mod types;

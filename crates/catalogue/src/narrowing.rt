@@ -43,17 +43,43 @@ impl Kind {
 fn between(low: Option<i32>, high: Option<i32>) -> Option<Range>
     ensures { λ r. ⌜ r ≡ Between low high ⌝ }
 {
-    Range { low: low?, high: high? }.unless_empty()
+    Range {
+        low: low?,
+        high: high?,
+    }.unless_empty()
 }
 
 /// What an operand keeps of its range: the ranks whose greatest result with `for_greatest` reaches z's low, and whose
 /// least result with `for_least` does not pass z's high.
-fn kept<A: Arithmetic>(a: &A, kind: Kind, modes: Modes, operand: Operand, range: Range, for_least: i32, for_greatest: i32, z: Range) -> Option<Range>
+fn kept<A: Arithmetic>(
+    a: &A,
+    kind: Kind,
+    modes: Modes,
+    operand: Operand,
+    range: Range,
+    for_least: i32,
+    for_greatest: i32,
+    z: Range,
+) -> Option<Range>
     requires { ⌜ Proper range ⌝ }
     ensures { λ r. ⌜ r ≡ Kept (arith (now (a .entry))) kind modes operand range «for_least» «for_greatest» z ⌝ }
 {
-    let reaches = Question { kind, modes, operand, other: for_greatest, asks: Asks::AtLeast, bound: z.low };
-    let stays = Question { kind, modes, operand, other: for_least, asks: Asks::AtMost, bound: z.high };
+    let reaches = Question {
+        kind,
+        modes,
+        operand,
+        other: for_greatest,
+        asks: Asks::AtLeast,
+        bound: z.low,
+    };
+    let stays = Question {
+        kind,
+        modes,
+        operand,
+        other: for_least,
+        asks: Asks::AtMost,
+        bound: z.high,
+    };
     if reaches.rises() {
         between(reaches.edge(a, range), stays.edge(a, range))
     } else {
@@ -79,7 +105,10 @@ fn results<A: Arithmetic>(a: &A, kind: Kind, modes: Modes, x: Range, y: Range) -
 {
     let least = a.span(kind, modes, x.low, kind.y_for_least(y)).least;
     let greatest = a.span(kind, modes, x.high, kind.y_for_greatest(y)).greatest;
-    Range { low: least, high: greatest }
+    Range {
+        low: least,
+        high: greatest,
+    }
 }
 
 /// Ranges of readings, narrowed: all three answers come from the same given ranges.
@@ -89,11 +118,19 @@ fn narrow_readings<A: Arithmetic>(a: &A, kind: Kind, modes: Modes, given: Triple
     ensures { λ r. ⌜ r ≡ narrowed-readings (arith (now (a .entry))) kind modes given ⌝ }
 {
     let Triple { x, y, z } = given;
-    all_three(
-        kept(a, kind, modes, Operand::X, x, kind.y_for_least(y), kind.y_for_greatest(y), z),
-        kept(a, kind, modes, Operand::Y, y, x.low, x.high, z),
-        z.meet(results(a, kind, modes, x, y)).unless_empty(),
-    )
+    let kept_x = kept(
+        a,
+        kind,
+        modes,
+        Operand::X,
+        x,
+        kind.y_for_least(y),
+        kind.y_for_greatest(y),
+        z,
+    );
+    let kept_y = kept(a, kind, modes, Operand::Y, y, x.low, x.high, z);
+    let kept_z = z.meet(results(a, kind, modes, x, y)).unless_empty();
+    all_three(kept_x, kept_y, kept_z)
 }
 
 /// The given ranges narrowed by one operation, or none: exactly what the rules keep.

@@ -49,7 +49,15 @@ fn or_else(first: Option<i32>, second: Option<i32>) -> Option<i32>
 }
 
 /// The first y of a range whose result under one mode is z, if the set has that mode.
-fn partner_by<A: Arithmetic>(a: &A, kind: Kind, modes: Modes, x: i32, z: i32, y: Range, mode: Mode) -> Option<i32>
+fn partner_by<A: Arithmetic>(
+    a: &A,
+    kind: Kind,
+    modes: Modes,
+    x: i32,
+    z: i32,
+    y: Range,
+    mode: Mode,
+) -> Option<i32>
     requires { ⌜ Proper y ⌝ }
     ensures { λ r. ⌜ r ≡ partner-by (arith (now (a .entry))) kind modes x z y mode ⌝ }
 {
@@ -57,13 +65,31 @@ fn partner_by<A: Arithmetic>(a: &A, kind: Kind, modes: Modes, x: i32, z: i32, y:
         return None;
     }
     let only = Modes::only(mode);
-    let toward = Question { kind, modes: only, operand: Operand::Y, other: x, asks: kind.toward_z(), bound: z };
+    let toward = Question {
+        kind,
+        modes: only,
+        operand: Operand::Y,
+        other: x,
+        asks: kind.toward_z(),
+        bound: z,
+    };
     let v = toward.edge(a, y)?;
-    if equal(a.span(kind, only, x, v).least, z) { Some(v) } else { None }
+    if equal(a.span(kind, only, x, v).least, z) {
+        Some(v)
+    } else {
+        None
+    }
 }
 
 /// A partner in a range of readings, mode by mode.
-fn partner_in<A: Arithmetic>(a: &A, kind: Kind, modes: Modes, x: i32, z: i32, y: Option<Range>) -> Option<i32>
+fn partner_in<A: Arithmetic>(
+    a: &A,
+    kind: Kind,
+    modes: Modes,
+    x: i32,
+    z: i32,
+    y: Option<Range>,
+) -> Option<i32>
     requires { ⌜ ((r : Range) → y ≡ Some r → Proper r) ⌝ }
     ensures { λ r. ⌜ r ≡ partner-in (arith (now (a .entry))) kind modes x z y ⌝ }
 {
@@ -76,7 +102,14 @@ fn partner_in<A: Arithmetic>(a: &A, kind: Kind, modes: Modes, x: i32, z: i32, y:
 }
 
 /// Some y of a range that makes an allowed triple with x and z, or none if there is none.
-pub fn partner<A: Arithmetic>(a: &A, kind: Kind, modes: Modes, x: i32, z: i32, y: Range) -> Option<i32>
+pub fn partner<A: Arithmetic>(
+    a: &A,
+    kind: Kind,
+    modes: Modes,
+    x: i32,
+    z: i32,
+    y: Range,
+) -> Option<i32>
     ensures value { λ r. ⌜ r ≡ partnered (arith (now (a .entry))) kind modes x z y ⌝ }
     ensures words { λ r. ⌜ SomeOf y (λ v. allowed (arith (now (a .entry))) kind modes x v z) r ⌝ }
 {

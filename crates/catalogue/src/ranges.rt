@@ -15,14 +15,21 @@ impl Range {
     pub fn unless_empty(self) -> Option<Range>
         ensures { λ r. ⌜ r ≡ unless-empty self ⌝ }
     {
-        if self.low <= self.high { Some(self) } else { None }
+        if self.low <= self.high {
+            Some(self)
+        } else {
+            None
+        }
     }
 
     /// What two ranges have in common; empty where its low is above its high.
     pub fn meet(self, other: Range) -> Range
         ensures { λ r. ⌜ r ≡ meet self other ⌝ }
     {
-        Range { low: self.low.max(other.low), high: self.high.min(other.high) }
+        Range {
+            low: self.low.max(other.low),
+            high: self.high.min(other.high),
+        }
     }
 
     /// High less low.
@@ -38,5 +45,9 @@ impl Range {
 pub(crate) fn all_three(x: Option<Range>, y: Option<Range>, z: Option<Range>) -> Option<Triple>
     ensures { λ r. ⌜ r ≡ all-three x y z ⌝ }
 {
-    Some(Triple { x: x?, y: y?, z: z? })
+    Some(Triple {
+        x: x?,
+        y: y?,
+        z: z?,
+    })
 }

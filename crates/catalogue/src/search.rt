@@ -17,7 +17,11 @@ fn moved(up: bool, from: i32, k: u32) -> i32
     requires { ⌜ SFits w32 (Moved up from k) ⌝ }
     ensures { λ r. ⌜ r ≡ Moved up from k ⌝ }
 {
-    if up { (from as i64 + k as i64) as i32 } else { (from as i64 - k as i64) as i32 }
+    if up {
+        (from as i64 + k as i64) as i32
+    } else {
+        (from as i64 - k as i64) as i32
+    }
 }
 
 /// Where a search that rises or falls begins.

@@ -38,7 +38,8 @@ stopping-laws e h = record {
   fits = (record { sfits = omega arith }, record { sfits = omega arith });
   ends = omega (arith, ints);
   in-x = λ k m. in-x e k;
-  in-y = λ k m. in-y e k }
+  in-y = λ k m. in-y e k;
+}
 
 -- ---- modes without effect
 lesser-same : (b : Bool) (v : ℤ) → lesser-if b v v ≡ v
@@ -87,4 +88,5 @@ write-reads e (negsuc n) h = absurd (h .0 .le)
 pub counting-laws : (e : ℕ) → e < 2 ^ 30 → Laws (counting e)
 counting-laws e h = ranked-laws (stopping e) (read-to e) (write-to e) (stopping-laws e h) record {
   reads = λ p v q. subst (Within e) q (read-within e p);
-  writes = write-reads e }
+  writes = write-reads e;
+}

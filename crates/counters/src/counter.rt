@@ -1,5 +1,8 @@
 ghost use Rattle.counters.specs.Counters.{counter as Meant};
 ghost use Rattle.counters.specs.Stopping.{stopping};
+use crate::stopping::pattern_to;
+use crate::stopping::rank_to;
+use crate::stopping::stopped_span;
 use catalogue::arithmetic::Arithmetic;
 use catalogue::interface::Catalogue;
 use catalogue::narrowing::narrow;
@@ -10,9 +13,6 @@ use catalogue::types::Range;
 use catalogue::types::Refusal;
 use catalogue::types::Span;
 use catalogue::types::Triple;
-use crate::stopping::pattern_to;
-use crate::stopping::rank_to;
-use crate::stopping::stopped_span;
 
 /// Counters of 24 bits, whose sums stop at the greatest reading and whose differences stop at 0.
 #[derive(Clone, Copy)]
@@ -25,7 +25,10 @@ pub impl Arithmetic for Counter as CounterArithmetic {
     ghost arith = { λ _. stopping 16777215 };
 
     fn readings(&self) -> Range {
-        Range { low: CounterCatalogue::LEAST, high: CounterCatalogue::GREATEST }
+        Range {
+            low: CounterCatalogue::LEAST,
+            high: CounterCatalogue::GREATEST,
+        }
     }
 
     fn span(&self, kind: Kind, modes: Modes, x: i32, y: i32) -> Span {
@@ -35,12 +38,16 @@ pub impl Arithmetic for Counter as CounterArithmetic {
 
 pub impl Catalogue for Counter as CounterCatalogue {
     const LEAST: i32 = 0;
+
     const GREATEST: i32 = 16_777_215;
 
     ghost meaning = { λ _. Meant };
 
     fn ends(&self) -> Range {
-        Range { low: Self::LEAST, high: Self::GREATEST }
+        Range {
+            low: Self::LEAST,
+            high: Self::GREATEST,
+        }
     }
 
     fn rank(&self, pattern: u32) -> Result<i32, Refusal> {

@@ -1,2 +1,2 @@
-pub mod stopping;
 pub mod counter;
+pub mod stopping;

@@ -40,7 +40,10 @@ pub(crate) fn stopped_span(end: u32, kind: Kind, modes: Modes, x: i32, y: i32) -
     ensures { λ r. ⌜ r ≡ span-of (stopping end) kind modes x y ⌝ }
 {
     let result = stopped(end, kind, nearest(end, x), nearest(end, y));
-    Span { least: result, greatest: result }
+    Span {
+        least: result,
+        greatest: result,
+    }
 }
 
 /// The rank of a pattern up to `end`.
@@ -48,7 +51,11 @@ pub(crate) fn rank_to(end: u32, pattern: u32) -> Result<i32, Refusal>
     requires { ⌜ end < 2 ^ 30 ⌝ }
     ensures { λ r. ⌜ numbered r ≡ rank-or-2 (read-to end pattern) ⌝ }
 {
-    if pattern <= end { Ok(pattern as i32) } else { Err(Refusal::NotAReading) }
+    if pattern <= end {
+        Ok(pattern as i32)
+    } else {
+        Err(Refusal::NotAReading)
+    }
 }
 
 /// The pattern of a rank up to `end`.

@@ -75,7 +75,11 @@ fn look<C: Catalogue>(sheet: &Sheet<C>, register: u32) -> Answer
 {
     match sheet.look() {
         Ok(look) => match look.patterns(register) {
-            Ok((low, high)) => Answer::Shown { low, high, settled: look.is_settled() },
+            Ok((low, high)) => Answer::Shown {
+                low,
+                high,
+                settled: look.is_settled(),
+            },
             Err(refusal) => Answer::Declined(refusal),
         },
         Err(refusal) => Answer::Declined(refusal),
@@ -89,9 +93,30 @@ fn carry_out<C: Catalogue>(sheet: &mut Sheet<C>, command: Command) -> Answer
     ensures catalogue { λ _. ⌜ now (sheet .exit) .catalogue ≡ now (sheet .entry) .catalogue ⌝ }
 {
     match command {
-        Command::Limit { register, low, high } => done_or(sheet.limit(register, low, high)),
-        Command::Enter { place, kind, modes, x, y, z } => {
-            done_or(enter(sheet, place, DrawnLine { kind: u32::from(kind_number(kind)), modes, x, y, z }))
+        Command::Limit {
+            register,
+            low,
+            high,
+        } => done_or(sheet.limit(register, low, high)),
+        Command::Enter {
+            place,
+            kind,
+            modes,
+            x,
+            y,
+            z,
+        } => {
+            done_or(enter(
+                sheet,
+                place,
+                DrawnLine {
+                    kind: u32::from(kind_number(kind)),
+                    modes,
+                    x,
+                    y,
+                    z,
+                },
+            ))
         }
         Command::Settle { budget } => settle(sheet, budget),
         Command::Look { register } => look(sheet, register),
@@ -111,7 +136,11 @@ pub fn answer<C: Catalogue>(sheet: &mut Sheet<C>, line: &[u8]) -> Answer
 }
 
 /// Answers every line of a script on one sheet.
-fn answer_all<C: Catalogue>(sheet: &mut Sheet<C>, heap: Global, script: &[u8]) -> Result<String, AllocError>
+fn answer_all<C: Catalogue>(
+    sheet: &mut Sheet<C>,
+    heap: Global,
+    script: &[u8],
+) -> Result<String, AllocError>
     ensures { λ r. ⌜ made r (λ s. string-bytes s ≡ answers (meaning (now (sheet .entry) .catalogue)) (lines (now (script .entry))) (now (sheet .entry) .table)) ⌝ }
 {
     let mut out = String::new(heap);
@@ -126,7 +155,11 @@ fn answer_all<C: Catalogue>(sheet: &mut Sheet<C>, heap: Global, script: &[u8]) -
 }
 
 /// Answers every line of a script on a new sheet.
-fn answer_anew<C: Catalogue + Drop>(catalogue: C, heap: Global, script: &[u8]) -> Result<String, AllocError>
+fn answer_anew<C: Catalogue + Drop>(
+    catalogue: C,
+    heap: Global,
+    script: &[u8],
+) -> Result<String, AllocError>
     ensures { λ r. ⌜ made r (λ s. string-bytes s ≡ answers (meaning catalogue) (lines (now (script .entry))) (new-table (meaning catalogue))) ⌝ }
 {
     let mut sheet = Sheet::new(catalogue);

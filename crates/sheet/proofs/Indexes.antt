@@ -49,7 +49,8 @@ index-same t u s i = record {
   registers = ap length (s .naming) ∙ i .registers;
   agrees = λ r n hr hn.
       ap (λ l. has (getD l r none) n) (s .naming) ∙ i .agrees r n hr hn
-      ∙ ap (λ p. has p n && names r (row-at u n)) (sym (s .standing)) ∙ ap (λ l. has (t .standing) n && names r (getD l n no-row)) (sym (s .rows)) }
+      ∙ ap (λ p. has p n && names r (row-at u n)) (sym (s .standing)) ∙ ap (λ l. has (t .standing) n && names r (getD l n no-row)) (sym (s .rows));
+}
 
 cut-table-lines : (r : ℕ) (b : Range) (t : Table) → SameLines (cut-table r b t) t
 cut-table-lines r b t = cond-both (smaller (meet (range-at t r) b) (range-at t r)) (changed r (meet (range-at t r) b) t) t (λ u. SameLines u t) (λ _. record { rows = refl; standing = refl; naming = refl }) (λ _. same-lines t)
@@ -116,7 +117,8 @@ pub new-indexed : (m : Meaning) → Indexed (new-table m)
 new-indexed m = record {
   places = refl;
   registers = refl;
-  agrees = λ r n hr hn. ap (λ p. has p n) (getD-same 32 r) ∙ nowhere n ∙ sym (ap (λ b. b && names r (row-at (new-table m) n)) (nowhere n)) }
+  agrees = λ r n hr hn. ap (λ p. has p n) (getD-same 32 r) ∙ nowhere n ∙ sym (ap (λ b. b && names r (row-at (new-table m) n)) (nowhere n));
+}
   where
     nowhere : (n : ℕ) → has none n ≡ false
     nowhere n = has-false none n (zero-bit n)
@@ -134,21 +136,24 @@ new-made m all p e f =
 named-at : (n x : ℕ) (s : List Places) (r k : ℕ) → x < length s → has (getD (named n x s) r none) k ≡ (has (getD s r none) k || (eqb x r && eqb k n))
 named-at n x s r k lt = ⊎-elim
     (λ (e : r ≡ x). subst (λ q. has (getD (named n x s) q none) k ≡ (has (getD s q none) k || (eqb x q && eqb k n))) (sym e)
-      (ap (λ p. has p k) (getD-set-same s x (with-place n (getD s x none)) none lt)
-       ∙ here (getD s x none) ∙ ap (λ b. has (getD s x none) k || (b && eqb k n)) (sym (eq-eqb x x refl))))
+    (ap (λ p. has p k) (getD-set-same s x (with-place n (getD s x none)) none lt)
+    ∙ here (getD s x none) ∙ ap (λ b. has (getD s x none) k || (b && eqb k n)) (sym (eq-eqb x x refl))))
     (λ (ne : r ≢ x). ap (λ p. has p k) (getD-set-other s x r (with-place n (getD s x none)) none ne)
-      ∙ off (has (getD s r none) k) (eqb k n) ∙ ap (λ b. has (getD s r none) k || (b && eqb k n)) (sym (ne-eqb x r (λ e. ne (sym e)))))
+    ∙ off (has (getD s r none) k) (eqb k n) ∙ ap (λ b. has (getD s r none) k || (b && eqb k n)) (sym (ne-eqb x r (λ e. ne (sym e)))))
     (cases-eq r x)
   where
     off : (a b : Bool) → a ≡ (a || (false && b))
     off true b = refl
     off false b = refl
+
     alone : (a : Bool) → a ≡ (a || (true && false))
     alone true = refl
     alone false = refl
+
     both : (a : Bool) → true ≡ (a || (true && true))
     both true = refl
     both false = refl
+
     here : (p : Places) → has (with-place n p) k ≡ (has p k || (true && eqb k n))
     here p = ⊎-elim
         (λ (e : k ≡ n). subst (λ q. has (with-place n p) q ≡ (has p q || (true && eqb q n))) (sym e) (with-here n p ∙ both (has p n) ∙ ap (λ b. has p n || (true && b)) (sym (eq-eqb n n refl))))
@@ -186,27 +191,29 @@ placed-indexed n l t lt reg free i =
       places = length-set (t .rows) n (row-of l) ∙ i .places;
       registers = length-named n (l .z) s2 ∙ l2;
       agrees = λ r k hr hk.
-        let hx = named-at n (l .x) s0 r k (omega (arith, reg .0, i .registers)) in
-        let hy = named-at n (l .y) s1 r k (omega (arith, reg .1)) in
-        let hz = named-at n (l .z) s2 r k (omega (arith, reg .2)) in
-        let a = has (getD s0 r none) k in
-        let all : has (naming-at (placed n l t) r) k ≡ (a || (names r (row-of l) && eqb k n)) =
-            hz ∙ ap (λ b. b || (eqb (l .z) r && eqb k n)) (hy ∙ ap (λ b. b || (eqb (l .y) r && eqb k n)) hx) ∙ merge a (eqb (l .x) r) (eqb (l .y) r) (eqb (l .z) r) (eqb k n) in
-        all ∙ ⊎-elim
+          let hx = named-at n (l .x) s0 r k (omega (arith, reg .0, i .registers)) in
+          let hy = named-at n (l .y) s1 r k (omega (arith, reg .1)) in
+          let hz = named-at n (l .z) s2 r k (omega (arith, reg .2)) in
+          let a = has (getD s0 r none) k in
+          let all : has (naming-at (placed n l t) r) k ≡ (a || (names r (row-of l) && eqb k n)) =
+          hz ∙ ap (λ b. b || (eqb (l .z) r && eqb k n)) (hy ∙ ap (λ b. b || (eqb (l .y) r && eqb k n)) hx) ∙ merge a (eqb (l .x) r) (eqb (l .y) r) (eqb (l .z) r) (eqb k n) in
+          all ∙ ⊎-elim
           (λ (e : k ≡ n). subst (λ q. (has (getD s0 r none) q || (names r (row-of l) && eqb q n)) ≡ (has (with-place n (t .standing)) q && names r (getD (set (t .rows) n (row-of l)) q no-row))) (sym e)
-            (ap (λ b. b || (names r (row-of l) && eqb n n)) (i .agrees r n hr lt ∙ ap (λ b. b && names r (row-at t n)) free)
-             ∙ ap (λ b. false || (names r (row-of l) && b)) (eq-eqb n n refl) ∙ true-and (names r (row-of l))
-             ∙ ap (λ w. true && names r w) (sym (getD-set-same (t .rows) n (row-of l) no-row (omega (arith, i .places))))
-             ∙ ap (λ b. b && names r (getD (set (t .rows) n (row-of l)) n no-row)) (sym (with-here n (t .standing)))))
+          (ap (λ b. b || (names r (row-of l) && eqb n n)) (i .agrees r n hr lt ∙ ap (λ b. b && names r (row-at t n)) free)
+          ∙ ap (λ b. false || (names r (row-of l) && b)) (eq-eqb n n refl) ∙ true-and (names r (row-of l))
+          ∙ ap (λ w. true && names r w) (sym (getD-set-same (t .rows) n (row-of l) no-row (omega (arith, i .places))))
+          ∙ ap (λ b. b && names r (getD (set (t .rows) n (row-of l)) n no-row)) (sym (with-here n (t .standing)))))
           (λ (ne : k ≢ n). ap (λ b. a || (names r (row-of l) && b)) (ne-eqb k n ne) ∙ drop-false a (names r (row-of l))
-             ∙ i .agrees r k hr hk
-             ∙ ap (λ w. has (t .standing) k && names r w) (sym (getD-set-other (t .rows) n k (row-of l) no-row ne))
-             ∙ ap (λ b. b && names r (getD (set (t .rows) n (row-of l)) k no-row)) (sym (with-other n (t .standing) k ne)))
-          (cases-eq k n) }
+          ∙ i .agrees r k hr hk
+          ∙ ap (λ w. has (t .standing) k && names r w) (sym (getD-set-other (t .rows) n k (row-of l) no-row ne))
+          ∙ ap (λ b. b && names r (getD (set (t .rows) n (row-of l)) k no-row)) (sym (with-other n (t .standing) k ne)))
+          (cases-eq k n);
+    }
   where
     true-and : (b : Bool) → (false || (b && true)) ≡ (true && b)
     true-and true = refl
     true-and false = refl
+
     drop-false : (a b : Bool) → (a || (b && false)) ≡ a
     drop-false true b = refl
     drop-false false true = refl

@@ -98,6 +98,7 @@ xor-bit a b i = ap (λ q. q % 2) (xor-shr a b i) ∙ low (a / 2 ^ i) (b / 2 ^ i)
     small (suc zero) (suc zero) p q = omega arith
     small (suc zero) (suc (suc y)) p q = absurd (omega arith)
     small (suc (suc x)) (suc y) p q = absurd (omega arith)
+
     low : (a b : ℕ) → bitXor a b % 2 ≡ differ (a % 2) (b % 2)
     low a b = let h = small (a % 2) (b % 2) (omega arith) (omega arith) in omega (arith, xor-step a b)
 

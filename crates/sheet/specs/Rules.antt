@@ -211,5 +211,11 @@ settled m (suc b) t = cond (at-rest (t .state)) record { table = t; steps = 0 } 
 
 abbrev pub new-table : Meaning → Table
 new-table m = record {
-  limits = replicate 32 (all-readings m); ranges = replicate 32 (all-readings m); rows = replicate 64 no-row;
-  standing = none; naming = replicate 32 none; due = none; state = Settled }
+  limits = replicate 32 (all-readings m);
+  ranges = replicate 32 (all-readings m);
+  rows = replicate 64 no-row;
+  standing = none;
+  naming = replicate 32 none;
+  due = none;
+  state = Settled;
+}

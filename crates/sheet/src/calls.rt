@@ -4,9 +4,6 @@ ghost use Rattle.catalogue.specs.Refusals.{numbered};
 ghost use Rattle.sheet.specs.Calls.{done, enter-answer, enter-asked, enter-table, in-patterns, is-settled, is-void, limit-asked, limit-table, limits-read, look-answer, outcome-of, settle-asked, settle-table, shown};
 ghost use Rattle.sheet.specs.Index.{Indexed};
 ghost use Rattle.sheet.specs.Rules.{new-table};
-use catalogue::interface::Catalogue;
-use catalogue::types::Range;
-use catalogue::types::Refusal;
 use crate::lines::CheckedLine;
 use crate::places::Places;
 use crate::sheet::Look;
@@ -15,6 +12,9 @@ use crate::table::Outcome;
 use crate::table::Row;
 use crate::table::State;
 use crate::table::Table;
+use catalogue::interface::Catalogue;
+use catalogue::types::Range;
+use catalogue::types::Refusal;
 
 /// How a settle that leaves a state ended.
 fn outcome(state: State) -> Outcome
@@ -39,7 +39,13 @@ impl<C: Catalogue> Sheet<C> {
         let table = Table {
             limits: [all; 32],
             ranges: [all; 32],
-            rows: [Row { kind: 0, modes: 0, x: 0, y: 0, z: 0 }; 64],
+            rows: [Row {
+                kind: 0,
+                modes: 0,
+                x: 0,
+                y: 0,
+                z: 0,
+            }; 64],
             standing: none,
             naming: [none; 32],
             due: none,
@@ -133,7 +139,10 @@ impl<C: Catalogue> Look<'_, C> {
         ensures { λ r. ⌜ numbered r ≡ in-patterns (meaning (now (now (self .entry) .sheet) .catalogue)) (shown register (now (now (self .entry) .sheet) .table)) ⌝ }
     {
         let range = self.range(register)?;
-        Ok((self.sheet.catalogue.pattern(range.low), self.sheet.catalogue.pattern(range.high)))
+        Ok((
+            self.sheet.catalogue.pattern(range.low),
+            self.sheet.catalogue.pattern(range.high),
+        ))
     }
 
     /// Whether the sheet is settled.

@@ -1,12 +1,12 @@
 ghost use mathlib.Core.Path.{_≡_};
 ghost use Rattle.sheet.specs.Lines.{check-answer, checked, drawn-of, kind-number, kind-of, row-of};
-use catalogue::types::Kind;
-use catalogue::types::Modes;
-use catalogue::types::Refusal;
 use crate::lines::CheckedLine;
 use crate::lines::DrawnLine;
 use crate::lines::Line;
 use crate::table::Row;
+use catalogue::types::Kind;
+use catalogue::types::Modes;
+use catalogue::types::Refusal;
 
 /// The kind that a number stands for.
 fn kind_of(number: u32) -> Option<Kind>
@@ -45,8 +45,18 @@ impl DrawnLine {
         if self.x > 31 || self.y > 31 || self.z > 31 {
             return Err(Refusal::NoSuchRegister);
         }
-        let modes = Modes { bits: self.modes as u8 };
-        Ok(CheckedLine { line: Line { kind, modes, x: self.x as u8, y: self.y as u8, z: self.z as u8 } })
+        let modes = Modes {
+            bits: self.modes as u8,
+        };
+        Ok(CheckedLine {
+            line: Line {
+                kind,
+                modes,
+                x: self.x as u8,
+                y: self.y as u8,
+                z: self.z as u8,
+            },
+        })
     }
 }
 
@@ -55,7 +65,13 @@ impl Line {
     pub(crate) fn row(self) -> Row
         ensures { λ r. ⌜ r ≡ row-of self ⌝ }
     {
-        Row { kind: kind_number(self.kind), modes: self.modes.bits, x: self.x, y: self.y, z: self.z }
+        Row {
+            kind: kind_number(self.kind),
+            modes: self.modes.bits,
+            x: self.x,
+            y: self.y,
+            z: self.z,
+        }
     }
 }
 

@@ -2,14 +2,14 @@ ghost use mathlib.Core.Path.{_≡_};
 ghost use Prim.Native.Nat.{_<_};
 ghost use Rattle.sheet.specs.Events.{Fitting};
 ghost use Rattle.sheet.specs.Rules.{Settling, at-rest, entered, limit-event, limited, named, placed, reacted, settled, with-naming};
-use catalogue::interface::Catalogue;
-use catalogue::types::Range;
 use crate::lines::CheckedLine;
 use crate::lines::Line;
 use crate::rules::lies_inside;
 use crate::table::Event;
 use crate::table::State;
 use crate::table::Table;
+use catalogue::interface::Catalogue;
+use catalogue::types::Range;
 
 /// Whether a state is at rest.
 fn is_at_rest(state: State) -> bool
@@ -42,7 +42,11 @@ impl Table {
         requires { ⌜ register < 32 ⌝ }
         ensures { λ e. ⌜ e ≡ limit-event register limits (now (self .entry)) ⌝ }
     {
-        if lies_inside(limits, self.limits[register as usize]) { Event::Tightened } else { Event::Loosened }
+        if lies_inside(limits, self.limits[register as usize]) {
+            Event::Tightened
+        } else {
+            Event::Loosened
+        }
     }
 
     /// Replaces a register's limits.

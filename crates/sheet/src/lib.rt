@@ -1,10 +1,12 @@
-pub mod places;
-pub mod lines;
-pub mod table;
-pub mod sheet;
 mod checks;
+pub mod lines;
+pub mod places;
+pub mod sheet;
+pub mod table;
+
 pub use crate::checks::kind_number;
-mod sets;
-mod rules;
-mod events;
+
 mod calls;
+mod events;
+mod rules;
+mod sets;

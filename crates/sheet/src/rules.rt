@@ -4,14 +4,14 @@ ghost use Prim.Native.Nat.{_<_};
 ghost use Rattle.std.specs.declared.option.Option.the-variants.{None, Some};
 ghost use Rattle.catalogue.specs.Ranges.{meet};
 ghost use Rattle.sheet.specs.Rules.{absorbed, changed, cut as Cut, cut-to-limits, empty, given as Given, inside, made-due, narrowed-by, or-void, rested, returned, smaller, step as Stepped, voided};
-use catalogue::interface::Catalogue;
-use catalogue::types::Range;
-use catalogue::types::Triple;
 use crate::lines::CheckedLine;
 use crate::lines::Line;
 use crate::places::Places;
 use crate::table::State;
 use crate::table::Table;
+use catalogue::interface::Catalogue;
+use catalogue::types::Range;
+use catalogue::types::Triple;
 
 /// Whether a range has no rank.
 fn is_empty(a: Range) -> bool
@@ -39,7 +39,11 @@ impl Table {
     pub(crate) fn rest(&mut self)
         ensures { λ _. ⌜ now (self .exit) ≡ rested (now (self .entry)) ⌝ }
     {
-        self.state = if self.due.is_none() { State::Settled } else { State::Open };
+        self.state = if self.due.is_none() {
+            State::Settled
+        } else {
+            State::Open
+        };
     }
 
     /// Void: nothing is due, and no range is kept.

@@ -24,7 +24,9 @@ impl Places {
         requires { ⌜ place < 64 ⌝ }
         ensures { λ r. ⌜ r ≡ with-place place self ⌝ }
     {
-        Places { bits: self.bits | (1 << place) }
+        Places {
+            bits: self.bits | (1 << place),
+        }
     }
 
     /// The set without a place.
@@ -32,14 +34,22 @@ impl Places {
         requires { ⌜ place < 64 ⌝ }
         ensures { λ r. ⌜ r ≡ without place self ⌝ }
     {
-        if self.has(place) { Places { bits: self.bits ^ (1 << place) } } else { self }
+        if self.has(place) {
+            Places {
+                bits: self.bits ^ (1 << place),
+            }
+        } else {
+            self
+        }
     }
 
     /// The places of both sets.
     pub(crate) fn union(self, other: Places) -> Places
         ensures { λ r. ⌜ r ≡ union self other ⌝ }
     {
-        Places { bits: self.bits | other.bits }
+        Places {
+            bits: self.bits | other.bits,
+        }
     }
 
     pub(crate) fn is_none(self) -> bool
@@ -53,6 +63,10 @@ impl Places {
         ensures value { λ r. ⌜ r ≡ lowest self ⌝ }
         ensures words { λ r. ⌜ Lowest self r ⌝ }
     {
-        if self.is_none() { None } else { Some(self.bits.trailing_zeros() as u8) }
+        if self.is_none() {
+            None
+        } else {
+            Some(self.bits.trailing_zeros() as u8)
+        }
     }
 }

@@ -1,5 +1,5 @@
-use catalogue::interface::Catalogue;
 use crate::table::Table;
+use catalogue::interface::Catalogue;
 
 /// One board's limits and lines, and the ranges that its registers can have.
 #[derive(Drop)]

@@ -1,5 +1,5 @@
-use catalogue::types::Range;
 use crate::places::Places;
+use catalogue::types::Range;
 
 /// The line at a place, as plain numbers.
 #[derive(Clone, Copy)]

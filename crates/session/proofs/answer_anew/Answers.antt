@@ -13,5 +13,5 @@ returns g c =
     let n = g .C·Catalogue .meaning (c .new-sheet .result .catalogue) in
     let ls = lines (c .args .script .now) in
     made-weaker (c .answer-all .result) (λ s. string-bytes s ≡ answers n ls (c .new-sheet .result .table)) (λ s. string-bytes s ≡ answers m ls (new-table m))
-      (λ s h. h ∙ answers-new m n (c .new-sheet .result .table) ls (ap (g .C·Catalogue .meaning) (c .new-sheet .ensures .catalogue)) (c .new-sheet .ensures .table))
-      (c .answer-all .ensures)
+    (λ s h. h ∙ answers-new m n (c .new-sheet .result .table) ls (ap (g .C·Catalogue .meaning) (c .new-sheet .ensures .catalogue)) (c .new-sheet .ensures .table))
+    (c .answer-all .ensures)

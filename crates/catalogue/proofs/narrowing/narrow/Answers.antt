@@ -13,7 +13,7 @@ pub returns-in-Some : need.returns-in-Some
 returns-in-Some g c =
     let a = g .A·Arithmetic .arith (c .args .a .now) in
     let v : c .narrow-readings .result ≡ narrowed a (c .args .kind) (c .args .modes) (c .args .given) =
-        c .narrow-readings .ensures ∙ ap (narrowed-cut a (c .args .kind) (c .args .modes)) (c .in-Some .ensures tt) in
+    c .narrow-readings .ensures ∙ ap (narrowed-cut a (c .args .kind) (c .args .modes)) (c .in-Some .ensures tt) in
     record { value = v; words = narrowing a (g .A·Arithmetic·met .laws (c .args .a .now)) (c .args .kind) (c .args .modes) (c .args .given) _ v }
 
 pub returns-in-None : need.returns-in-None

@@ -13,4 +13,4 @@ returns g c =
     let l : SFits w32 (c .args .given .x .low) = search needs in
     let h : SFits w32 (c .args .given .x .high) = search needs in
     c .all-three .ensures ∙ narrowed-by (g .A·Arithmetic .arith (c .args .a .now)) (c .args .kind) (c .args .modes) (c .args .given) (c .y-for-least .result) (c .y-for-greatest .result) (c .results .result) (c .meet .result) _ _ _
-      (c .y-for-least .ensures) (c .y-for-greatest .ensures) (c .results .ensures) (c .meet .ensures) (simp toZ-ofZ at (c .kept .ensures)) (simp toZ-ofZ at (c .kept-2 .ensures)) (c .unless-empty .ensures)
+    (c .y-for-least .ensures) (c .y-for-greatest .ensures) (c .results .ensures) (c .meet .ensures) (simp toZ-ofZ at (c .kept-kept-x .ensures)) (simp toZ-ofZ at (c .kept-kept-y .ensures)) (c .unless-empty-kept-z .ensures)

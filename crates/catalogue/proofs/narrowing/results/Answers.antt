@@ -15,4 +15,4 @@ returns g c =
     let w : SFits w32 (c .span-greatest .result .greatest) = search needs in
     rw (toZ-ofZ w32 (c .span-least .result .least), toZ-ofZ w32 (c .span-greatest .result .greatest))
     (results-by (g .A·Arithmetic .arith (c .args .a .now)) (c .args .kind) (c .args .modes) (c .args .x) (c .args .y) _ _ _ _ (c .y-for-least .ensures) (c .y-for-greatest .ensures)
-      (simp toZ-ofZ at (c .span-least .ensures)) (simp toZ-ofZ at (c .span-greatest .ensures)))
+    (simp toZ-ofZ at (c .span-least .ensures)) (simp toZ-ofZ at (c .span-greatest .ensures)))

@@ -27,7 +27,7 @@ returns-then-both-in g c =
     let both : (holds (readings a) x && holds (readings a) z) ≡ true = sym (simp toZ-ofZ at (c .if-both-in .ensures tt) ∙ ap (λ w. holds w x && holds w z) r) in
     let cut : c .unless-empty .result ≡ unless-empty (meet (readings a) y) = c .unless-empty .ensures ∙ ap unless-empty (c .meet .ensures ∙ ap (λ w. meet w y) r) in
     let v : c .partner-in .result ≡ partnered a k s x z y =
-        partnered-then a (g .A·Arithmetic·met .laws (c .args .a .now)) k s x z y _ both (simp toZ-ofZ at (c .partner-in .ensures) ∙ ap (partner-in a k s x z) cut) in
+    partnered-then a (g .A·Arithmetic·met .laws (c .args .a .now)) k s x z y _ both (simp toZ-ofZ at (c .partner-in .ensures) ∙ ap (partner-in a k s x z) cut) in
     record { value = v; words = subst (SomeOf y (λ u. allowed a k s x u z)) (sym v) (partnered-is a (g .A·Arithmetic·met .laws (c .args .a .now)) k s x z y) }
 
 pub returns-else-both-in : need.returns-else-both-in

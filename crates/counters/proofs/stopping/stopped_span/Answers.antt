@@ -18,6 +18,6 @@ returns c =
     let u : SFits w32 (c .nearest .result) = search needs in
     let v : SFits w32 (c .nearest-2 .result) = search needs in
     rw toZ-ofZ (span-alike e k (c .args .modes) (c .args .x) (c .args .y) (c .stopped-result .result)
-      (simp toZ-ofZ at (c .stopped-result .ensures)
-        ∙ ap (λ w. stopped e k w (c .nearest-2 .result)) (simp toZ-ofZ at (c .nearest .ensures .value))
-        ∙ ap (stopped e k (nearest-reading (stopping e) (c .args .x))) (simp toZ-ofZ at (c .nearest-2 .ensures .value))))
+    (simp toZ-ofZ at (c .stopped-result .ensures)
+    ∙ ap (λ w. stopped e k w (c .nearest-2 .result)) (simp toZ-ofZ at (c .nearest .ensures .value))
+    ∙ ap (stopped e k (nearest-reading (stopping e) (c .args .x))) (simp toZ-ofZ at (c .nearest-2 .ensures .value))))

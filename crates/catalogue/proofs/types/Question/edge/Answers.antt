@@ -28,7 +28,7 @@ moved-requires g c κs =
     let h = simp toZ-ofZ at (c .in-Some .ensures tt) in
     let k = found-within a q r laws (c .origin-from .result) (c .extent .result) (c .in-Some .k) top h in
     let end : SFits w32 (moved b (c .origin-from .result) (c .extent .result)) =
-        rw (e, c .extent .ensures) (subst (SFits w32) (sym (other-end b r (c .pre))) (origin-fits (not b) r lo hi)) in
+    rw (e, c .extent .ensures) (subst (SFits w32) (sym (other-end b r (c .pre))) (origin-fits (not b) r lo hi)) in
     rw (c .rises-in-Some .ensures, toZ-ofZ w32 (c .origin-from .result)) (fits-on-the-way b (c .origin-from .result) (c .extent .result) (c .in-Some .k) k f end)
 
 pub returns-in-Some : need.returns-in-Some
@@ -38,12 +38,12 @@ returns-in-Some g c =
     let r = c .args .range in
     let h = simp (toZ-ofZ) at (c .in-Some .ensures tt) in
     ap Some (toZ-ofZ w32 (c .moved .result) m) ∙ edge-some _ (c .args .self) r (c .origin-from .result) (c .extent .result) (c .rises-in-Some .result) (c .moved .result) (c .in-Some .k)
-      (c .origin-from .ensures ∙ ap (λ v. origin v r) (c .rises .ensures)) (c .extent .ensures) (c .rises-in-Some .ensures)
-      (simp toZ-ofZ at (c .moved .ensures)) h
+    (c .origin-from .ensures ∙ ap (λ v. origin v r) (c .rises .ensures)) (c .extent .ensures) (c .rises-in-Some .ensures)
+    (simp toZ-ofZ at (c .moved .ensures)) h
 
 pub returns-in-None : need.returns-in-None
 returns-in-None g c =
     let f : SFits w32 (c .origin-from .result) = search needs in
     let r = c .args .range in
     edge-none _ (c .args .self) r (c .origin-from .result) (c .extent .result)
-      (c .origin-from .ensures ∙ ap (λ v. origin v r) (c .rises .ensures)) (c .extent .ensures) (simp (toZ-ofZ) at (c .in-None .ensures tt))
+    (c .origin-from .ensures ∙ ap (λ v. origin v r) (c .rises .ensures)) (c .extent .ensures) (simp (toZ-ofZ) at (c .in-None .ensures tt))

@@ -18,4 +18,5 @@ returns-else-is-none c =
     let t = trails 64 (s .bits) p (search needs) in
     record {
       value = sym (cond-false (is-none s) None (Some _) some);
-      words = (t .within, has-true s _ (t .here), λ k h. has-false s k (t .below k h)) }
+      words = (t .within, has-true s _ (t .here), λ k h. has-false s k (t .below k h));
+    }

@@ -17,4 +17,5 @@ returns g c =
       answer = search needs;
       table = search needs;
       catalogue = search needs;
-      index = entered-indexed (g .C·Catalogue .meaning (c .args .self .now .catalogue)) n (l .line) t _ (c .enter .ensures) lt (l .«x_exists», l .«y_exists», l .«z_exists») free }
+      index = entered-indexed (g .C·Catalogue .meaning (c .args .self .now .catalogue)) n (l .line) t _ (c .enter .ensures) lt (l .«x_exists», l .«y_exists», l .«z_exists») free;
+    }

@@ -7,4 +7,5 @@ returns g c = record {
   answer = search needs;
   table = search needs;
   catalogue = search needs;
-  index = limited-indexed (g .C·Catalogue .meaning (c .args .self .now .catalogue)) (c .args .register) (c .in-Continue-limits .limits) (c .args .self .now .table) _ (c .limit .ensures) }
+  index = limited-indexed (g .C·Catalogue .meaning (c .args .self .now .catalogue)) (c .args .register) (c .in-Continue-limits .limits) (c .args .self .now .table) _ (c .limit .ensures);
+}
