@@ -6,7 +6,6 @@ use mathlib.Core.Logic.{⊎-elim}
 use Prim.Native.Nat.{ℕ}
 use lib.Dec.{eqb}
 use Rattle.std.proofs.shelf.Tests.{cond-true, cond-false, eqb-true, cases-bool}
-use Rattle.std.specs.shelf.Lists.{All}
 use Rattle.std.specs.declared.option.Option.{Option}
 use Rattle.std.specs.declared.option.Option.the-variants.{Some, None}
 use Rattle.words.specs.Words.{words}
@@ -14,7 +13,7 @@ use Rattle.commands.specs.Commands.{last, limit-of, enter-of, settle-of, look-
 use Rattle.commands.specs.Lines.{letter-of, words-of, spaced, line-of, Sized, Reads}
 use Rattle.commands.specs.declared.Command.{Command}
 use Rattle.commands.specs.declared.Command.the-variants.{Limit, Enter, Settle, Look}
-use Rattle.commands.proofs.Spaces.{Clear, words-back, spaced-words}
+use Rattle.commands.proofs.Spaces.{words-back, spaced-words}
 use Rattle.commands.proofs.Forms.{number-form, pattern-form, kind-form, none-some, taking, step-back}
 
 -- the command has this letter and these words

@@ -1,13 +1,13 @@
 -- A number is read from just the word that is written of it in decimal.
 use mathlib.Core.Path.{_≡_, refl, sym, ap, _∙_}
 use mathlib.Core.List.{List, [], _∷_}
-use mathlib.Core.Bool.{Bool, true, false, cond, _&&_}
-use mathlib.Core.Logic.{inl, inr, ⊎-elim}
+use mathlib.Core.Bool.{true, _&&_}
+use mathlib.Core.Logic.{⊎-elim}
 use Prim.Native.Nat.{ℕ, _+_, _*_, _^_, _<_, _≤_}
 use native.Mathlib.Omega.{arith}
-use lib.Dec.{eqb, ltb}
+use lib.Dec.{ltb}
 use lib.ListN.{length, getD}
-use Rattle.std.proofs.shelf.Tests.{cond-true, cond-false, lt-ltb, le-ltb, ltb-true, ltb-false, cases-bool, and-parts, and-from, cases-lt}
+use Rattle.std.proofs.shelf.Tests.{cond-true, cond-false, lt-ltb, ltb-true, cases-bool, and-parts, and-from, cases-lt}
 use Rattle.std.proofs.shelf.Ways.{tells}
 use Rattle.std.proofs.shelf.Numerals.{Numerals, numerals-by-value, tells-digits, value-short}
 use Rattle.std.proofs.shelf.Decimals.{decimal-value, value-decimal, digits-decimal, decimal-some, decimal-digit, first-decimal, length-decimal-le}
@@ -15,7 +15,7 @@ use Rattle.std.specs.Reads.{Digits, value, valueAfter}
 use Rattle.std.specs.Text.{digitValue}
 use Rattle.std.specs.Written.{decimal}
 use Rattle.std.specs.declared.option.Option.{Option}
-use Rattle.std.specs.declared.option.Option.the-variants.{Some, None}
+use Rattle.std.specs.declared.option.Option.the-variants.{Some}
 use Rattle.words.proofs.Inverses.{none-some, inverts-from}
 use Rattle.words.specs.Numbers.{worth, numeral, led, number-of, Inverts}
 

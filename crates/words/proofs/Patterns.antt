@@ -12,7 +12,7 @@ use Rattle.std.proofs.shelf.Tests.{cond-true, cond-false, lt-ltb, ltb-true, ne-
 use Rattle.std.proofs.shelf.Ways.{tells}
 use Rattle.std.specs.shelf.Digits.{Under, numberAfter}
 use Rattle.std.specs.declared.option.Option.{Option}
-use Rattle.std.specs.declared.option.Option.the-variants.{Some, None}
+use Rattle.std.specs.declared.option.Option.the-variants.{Some}
 use Rattle.words.proofs.Inverses.{none-some, inverts-from}
 use Rattle.words.specs.Numbers.{worth, numeral, pattern-of, glyph-of, digits-of, written, Inverts}
 

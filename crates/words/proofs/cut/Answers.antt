@@ -1,4 +1,4 @@
-use mathlib.Core.Path.{_≡_, _∙_}
+use mathlib.Core.Path.{_∙_}
 use Rattle.words.specs.Words.{front, back}
 use Rattle.words.proofs.Cuts.{cut-at}
 use Rattle.words.proofs.Laws.{parts}

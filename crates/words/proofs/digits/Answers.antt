@@ -1,11 +1,10 @@
-use mathlib.Core.Path.{_≡_, refl, sym, ap, _∙_}
+use mathlib.Core.Path.{refl, sym, _∙_}
 use Prim.Native.Nat.{_+_, _*_, _^_, _<_}
 use native.Mathlib.Omega.{arith}
 use native.Mathlib.Nat.{pow-zero}
-use borrow.Author.Needs.{needs}
-use lib.ListN.{length, drop, getD}
+use lib.ListN.{length}
 use Rattle.std.proofs.shelf.Lists.{at-drop-all}
-use Rattle.words.specs.Numbers.{numeral, worth}
+use Rattle.words.specs.Numbers.{numeral}
 use Rattle.words.proofs.Numerals.{numeral-more, numeral-stop, is-digit, no-digit, grows}
 use Rattle.words.proofs.digits.Needs as need
 
