@@ -139,10 +139,8 @@ impl<C: Catalogue> Look<'_, C> {
         ensures { λ r. ⌜ numbered r ≡ in-patterns (meaning (now (now (self .entry) .sheet) .catalogue)) (shown register (now (now (self .entry) .sheet) .table)) ⌝ }
     {
         let range = self.range(register)?;
-        Ok((
-            self.sheet.catalogue.pattern(range.low),
-            self.sheet.catalogue.pattern(range.high),
-        ))
+        let catalogue = &self.sheet.catalogue;
+        Ok((catalogue.pattern(range.low), catalogue.pattern(range.high)))
     }
 
     /// Whether the sheet is settled.
