@@ -27,18 +27,7 @@ Sound a r = Reading a (r .low) × Reading a (r .high) × Proper r
 abbrev pub Sound3 : Arith → Triple → Type 0
 Sound3 a t = Sound a (t .x) × Sound a (t .y) × Sound a (t .z)
 
-abbrev ends : ℤ → ℤ → Range
-ends l h = record { low = l; high = h }
-
-same-three : (x x2 y y2 z z2 : Option Range) → x ≡ x2 → y ≡ y2 → z ≡ z2 → all-three x y z ≡ all-three x2 y2 z2
-same-three x x2 y y2 z z2 a b c = ap (λ v. all-three v y z) a ∙ ap (λ v. all-three x2 v z) b ∙ ap (all-three x2 y2) c
-
 module _ (a : Arith) where
-  pub results-by : (k : Kind) (s : Modes) (x y : Range) (n f : ℤ) (u w : Span) → n ≡ y-for-least k y → f ≡ y-for-greatest k y → u ≡ span-of a k s (x .low) n → w ≡ span-of a k s (x .high) f → ends (u .least) (w .greatest) ≡ results a k s x y
-  results-by k s x y n f u w en ef eu ew =
-      ap (λ v. ends (v .least) (w .greatest)) (eu ∙ ap (span-of a k s (x .low)) en)
-      ∙ ap (λ v. ends (span-of a k s (x .low) (y-for-least k y) .least) (v .greatest)) (ew ∙ ap (span-of a k s (x .high)) ef)
-
   -- a cut range is sound
   SoundO : Option Range → Type 0
   SoundO None = Unit {0}
@@ -67,10 +56,3 @@ module _ (a : Arith) where
   pub cut-sound : (t c : Triple) → Some c ≡ cut a t → Sound3 a c
   unfolding SoundO3
   cut-sound t c e = subst SoundO3 (sym e) (three-sound _ _ _ (meet-sound (t .x)) (meet-sound (t .y)) (meet-sound (t .z)))
-
-  pub narrowed-by : (k : Kind) (s : Modes) (t : Triple) (n f : ℤ) (w u : Range) (x y z : Option Range) → n ≡ y-for-least k (t .y) → f ≡ y-for-greatest k (t .y) → w ≡ results a k s (t .x) (t .y) → u ≡ meet (t .z) w → x ≡ kept a k s X (t .x) n f (t .z) → y ≡ kept a k s Y (t .y) (t .x .low) (t .x .high) (t .z) → z ≡ unless-empty u → all-three x y z ≡ narrowed-readings a k s t
-  narrowed-by k s t n f w u x y z en ef ew eu ex ey ez =
-      same-three x _ y _ z _
-      (ex ∙ ap (λ v. kept a k s X (t .x) v f (t .z)) en ∙ ap (λ v. kept a k s X (t .x) (y-for-least k (t .y)) v (t .z)) ef)
-      ey
-      (ez ∙ ap unless-empty (eu ∙ ap (meet (t .z)) ew))

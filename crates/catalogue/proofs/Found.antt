@@ -143,20 +143,3 @@ module _ (a : Arith) (laws : ArithLaws a) (k : Kind) (s : Modes) (x z : ℤ) (y 
       (λ e v i h. let p = and-parts ((holds (readings a) x && (holds (readings a) v && holds (readings a) z))) _ h in
       let q = and-parts (holds (readings a) x) (holds (readings a) v && holds (readings a) z) (p .0) in
       both-ways (holds (readings a) x && holds (readings a) z) e (and-from (holds (readings a) x) (holds (readings a) z) (q .0) (and-parts (holds (readings a) v) (holds (readings a) z) (q .1) .1)))
-
-  -- what the code has in hand
-  pub partnered-then : (o : Option ℤ) → (holds (readings a) x && holds (readings a) z) ≡ true → o ≡ partner-in a k s x z (unless-empty (meet (readings a) y)) → o ≡ partnered a k s x z y
-  partnered-then o e h = h ∙ sym (cond-true (holds (readings a) x && holds (readings a) z) _ None e)
-
-  pub partnered-else : (holds (readings a) x && holds (readings a) z) ≡ false → None ≡ partnered a k s x z y
-  partnered-else e = sym (cond-false (holds (readings a) x && holds (readings a) z) _ None e)
-
-pub proper-some : (r c : Range) → unless-empty c ≡ Some r → Proper r
-proper-some r c e = at (unless-empty c) (cond-both (leZ (c .low) (c .high)) (Some c) None Good (λ t. le-true _ _ t) (λ t. tt)) e
-  where
-    Good : Option Range → Type 0
-    Good None = Unit {0}
-    Good (Some w) = Proper w
-
-    at : (o : Option Range) → Good o → o ≡ Some r → Proper r
-    at o h q = subst Good q h

@@ -103,11 +103,18 @@ results a k s x y = record {
 abbrev pub cut : Arith → Triple → Option Triple
 cut a t = all-three (unless-empty (meet (readings a) (t .x))) (unless-empty (meet (readings a) (t .y))) (unless-empty (meet (readings a) (t .z)))
 
+-- what each of three ranges of readings keeps
+abbrev pub keeps-x : Arith → Kind → Modes → Triple → Option Range
+keeps-x a k s t = kept a k s X (t .x) (y-for-least k (t .y)) (y-for-greatest k (t .y)) (t .z)
+
+abbrev pub keeps-y : Arith → Kind → Modes → Triple → Option Range
+keeps-y a k s t = kept a k s Y (t .y) (t .x .low) (t .x .high) (t .z)
+
+abbrev pub keeps-z : Arith → Kind → Modes → Triple → Option Range
+keeps-z a k s t = unless-empty (meet (t .z) (results a k s (t .x) (t .y)))
+
 abbrev pub narrowed-readings : Arith → Kind → Modes → Triple → Option Triple
-narrowed-readings a k s t = all-three
-    (kept a k s X (t .x) (y-for-least k (t .y)) (y-for-greatest k (t .y)) (t .z))
-    (kept a k s Y (t .y) (t .x .low) (t .x .high) (t .z))
-    (unless-empty (meet (t .z) (results a k s (t .x) (t .y))))
+narrowed-readings a k s t = all-three (keeps-x a k s t) (keeps-y a k s t) (keeps-z a k s t)
 
 abbrev pub narrowed-cut : Arith → Kind → Modes → Option Triple → Option Triple
 narrowed-cut a k s None = None

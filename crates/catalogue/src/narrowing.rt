@@ -2,7 +2,7 @@ ghost use mathlib.Core.Path.{_≡_};
 ghost use Rattle.catalogue.specs.Ranges.{Proper};
 ghost use Rattle.catalogue.specs.Operations.{falls-in-y};
 ghost use Rattle.catalogue.specs.Narrowing.{Narrowing, y-for-greatest, y-for-least};
-ghost use Rattle.catalogue.specs.Search.{between as Between, cut as Cut, kept as Kept, narrowed, narrowed-readings, results as Results};
+ghost use Rattle.catalogue.specs.Search.{between as Between, cut as Cut, kept as Kept, narrowed, narrowed-readings, keeps-x, keeps-y, keeps-z, results as Results};
 use crate::arithmetic::Arithmetic;
 use crate::ranges::all_three;
 use crate::types::Asks;
@@ -99,26 +99,37 @@ fn cut<A: Arithmetic>(a: &A, given: Triple) -> Option<Triple>
     )
 }
 
+/// The least result that two ranges can have.
+fn least_result<A: Arithmetic>(a: &A, kind: Kind, modes: Modes, x: Range, y: Range) -> i32
+    ensures { λ r. ⌜ r ≡ Results (arith (now (a .entry))) kind modes x y .low ⌝ }
+{
+    a.span(kind, modes, x.low, kind.y_for_least(y)).least
+}
+
+/// The greatest result that two ranges can have.
+fn greatest_result<A: Arithmetic>(a: &A, kind: Kind, modes: Modes, x: Range, y: Range) -> i32
+    ensures { λ r. ⌜ r ≡ Results (arith (now (a .entry))) kind modes x y .high ⌝ }
+{
+    a.span(kind, modes, x.high, kind.y_for_greatest(y)).greatest
+}
+
 /// The results that two ranges can have.
 fn results<A: Arithmetic>(a: &A, kind: Kind, modes: Modes, x: Range, y: Range) -> Range
     ensures { λ r. ⌜ r ≡ Results (arith (now (a .entry))) kind modes x y ⌝ }
 {
-    let least = a.span(kind, modes, x.low, kind.y_for_least(y)).least;
-    let greatest = a.span(kind, modes, x.high, kind.y_for_greatest(y)).greatest;
     Range {
-        low: least,
-        high: greatest,
+        low: least_result(a, kind, modes, x, y),
+        high: greatest_result(a, kind, modes, x, y),
     }
 }
 
-/// Ranges of readings, narrowed: all three answers come from the same given ranges.
-fn narrow_readings<A: Arithmetic>(a: &A, kind: Kind, modes: Modes, given: Triple) -> Option<Triple>
-    requires x { ⌜ Proper (given .x) ⌝ }
-    requires y { ⌜ Proper (given .y) ⌝ }
-    ensures { λ r. ⌜ r ≡ narrowed-readings (arith (now (a .entry))) kind modes given ⌝ }
+/// What x keeps of its range.
+fn keep_x<A: Arithmetic>(a: &A, kind: Kind, modes: Modes, given: Triple) -> Option<Range>
+    requires { ⌜ Proper (given .x) ⌝ }
+    ensures { λ r. ⌜ r ≡ keeps-x (arith (now (a .entry))) kind modes given ⌝ }
 {
     let Triple { x, y, z } = given;
-    let kept_x = kept(
+    kept(
         a,
         kind,
         modes,
@@ -127,10 +138,36 @@ fn narrow_readings<A: Arithmetic>(a: &A, kind: Kind, modes: Modes, given: Triple
         kind.y_for_least(y),
         kind.y_for_greatest(y),
         z,
-    );
-    let kept_y = kept(a, kind, modes, Operand::Y, y, x.low, x.high, z);
-    let kept_z = z.meet(results(a, kind, modes, x, y)).unless_empty();
-    all_three(kept_x, kept_y, kept_z)
+    )
+}
+
+/// What y keeps of its range.
+fn keep_y<A: Arithmetic>(a: &A, kind: Kind, modes: Modes, given: Triple) -> Option<Range>
+    requires { ⌜ Proper (given .y) ⌝ }
+    ensures { λ r. ⌜ r ≡ keeps-y (arith (now (a .entry))) kind modes given ⌝ }
+{
+    let Triple { x, y, z } = given;
+    kept(a, kind, modes, Operand::Y, y, x.low, x.high, z)
+}
+
+/// What z keeps of its range.
+fn keep_z<A: Arithmetic>(a: &A, kind: Kind, modes: Modes, given: Triple) -> Option<Range>
+    ensures { λ r. ⌜ r ≡ keeps-z (arith (now (a .entry))) kind modes given ⌝ }
+{
+    let Triple { x, y, z } = given;
+    z.meet(results(a, kind, modes, x, y)).unless_empty()
+}
+
+/// Ranges of readings, narrowed: all three answers come from the same given ranges.
+fn narrow_readings<A: Arithmetic>(a: &A, kind: Kind, modes: Modes, given: Triple) -> Option<Triple>
+    requires x { ⌜ Proper (given .x) ⌝ }
+    requires y { ⌜ Proper (given .y) ⌝ }
+    ensures { λ r. ⌜ r ≡ narrowed-readings (arith (now (a .entry))) kind modes given ⌝ }
+{
+    let x = keep_x(a, kind, modes, given);
+    let y = keep_y(a, kind, modes, given);
+    let z = keep_z(a, kind, modes, given);
+    all_three(x, y, z)
 }
 
 /// The given ranges narrowed by one operation, or none: exactly what the rules keep.

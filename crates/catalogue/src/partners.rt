@@ -2,7 +2,7 @@ ghost use mathlib.Core.Path.{_≡_};
 ghost use mathlib.Core.Bool.{_&&_};
 ghost use Rattle.catalogue.specs.Ranges.{Proper, holds};
 ghost use Rattle.catalogue.specs.Operations.{allowed, equal as Equal};
-ghost use Rattle.std.specs.declared.option.Option.the-variants.{Some};
+ghost use Rattle.std.specs.Options.{Cases};
 ghost use Rattle.catalogue.specs.Partners.{SomeOf, or-else, partner-by, partner-in, partnered, toward-z};
 use crate::arithmetic::Arithmetic;
 use crate::types::Asks;
@@ -90,7 +90,7 @@ fn partner_in<A: Arithmetic>(
     z: i32,
     y: Option<Range>,
 ) -> Option<i32>
-    requires { ⌜ ((r : Range) → y ≡ Some r → Proper r) ⌝ }
+    requires { ⌜ Cases y (Unit {0}) Proper ⌝ }
     ensures { λ r. ⌜ r ≡ partner-in (arith (now (a .entry))) kind modes x z y ⌝ }
 {
     let y = y?;
@@ -99,6 +99,18 @@ fn partner_in<A: Arithmetic>(
     let down = partner_by(a, kind, modes, x, z, y, Mode::Down);
     let toward_zero = partner_by(a, kind, modes, x, z, y, Mode::TowardZero);
     or_else(nearest, or_else(up, or_else(down, toward_zero)))
+}
+
+/// A partner in any range, of readings x and z.
+fn find<A: Arithmetic>(a: &A, kind: Kind, modes: Modes, x: i32, z: i32, y: Range) -> Option<i32>
+    ensures { λ r. ⌜ r ≡ partnered (arith (now (a .entry))) kind modes x z y ⌝ }
+{
+    let readings = a.readings();
+    if both_in(readings, x, z) {
+        partner_in(a, kind, modes, x, z, readings.meet(y).unless_empty())
+    } else {
+        None
+    }
 }
 
 /// Some y of a range that makes an allowed triple with x and z, or none if there is none.
@@ -113,10 +125,5 @@ pub fn partner<A: Arithmetic>(
     ensures value { λ r. ⌜ r ≡ partnered (arith (now (a .entry))) kind modes x z y ⌝ }
     ensures words { λ r. ⌜ SomeOf y (λ v. allowed (arith (now (a .entry))) kind modes x v z) r ⌝ }
 {
-    let readings = a.readings();
-    if both_in(readings, x, z) {
-        partner_in(a, kind, modes, x, z, readings.meet(y).unless_empty())
-    } else {
-        None
-    }
+    find(a, kind, modes, x, z, y)
 }

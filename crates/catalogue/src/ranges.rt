@@ -1,4 +1,5 @@
 ghost use mathlib.Core.Path.{_≡_};
+ghost use Rattle.std.specs.Options.{Cases};
 ghost use Rattle.catalogue.specs.Ranges.{Proper, all-three, extent, holds, meet, unless-empty};
 use crate::types::Range;
 use crate::types::Triple;
@@ -13,7 +14,8 @@ impl Range {
 
     /// The range, unless it is empty.
     pub fn unless_empty(self) -> Option<Range>
-        ensures { λ r. ⌜ r ≡ unless-empty self ⌝ }
+        ensures value { λ r. ⌜ r ≡ unless-empty self ⌝ }
+        ensures proper { λ r. ⌜ Cases r (Unit {0}) Proper ⌝ }
     {
         if self.low <= self.high {
             Some(self)
