@@ -19,7 +19,7 @@ use Rattle.catalogue.specs.Meanings.{Meaning, all-readings}
 use Rattle.sheet.specs.declared.lines.Line.{Line}
 use Rattle.sheet.specs.declared.places.Places.{Places}
 use Rattle.sheet.specs.declared.table.Event.{Event}
-use Rattle.sheet.specs.declared.table.Event.the-variants.{Tightened, Loosened, Entered, Step}
+use Rattle.sheet.specs.declared.table.Event.the-variants.{Tightened, Loosened, Entered, Struck, Step}
 use Rattle.sheet.specs.declared.table.State.{State}
 use Rattle.sheet.specs.declared.table.State.the-variants.{Settled, Open, Void}
 use Rattle.sheet.specs.declared.table.Row.{Row}
@@ -98,6 +98,9 @@ module _ (m : Meaning) where
   reacted-lines Void Entered at t = same-lines t
   reacted-lines Settled Entered at t = record { rows = refl; standing = refl; naming = refl }
   reacted-lines Open Entered at t = record { rows = refl; standing = refl; naming = refl }
+  reacted-lines Void Struck at t = record { rows = refl; standing = refl; naming = refl }
+  reacted-lines Settled Struck at t = record { rows = refl; standing = refl; naming = refl }
+  reacted-lines Open Struck at t = record { rows = refl; standing = refl; naming = refl }
   reacted-lines Void Step at t = same-lines t
   reacted-lines Settled Step at t = same-lines t
   reacted-lines Open Step at t = step-at-lines (lowest (t .due)) t

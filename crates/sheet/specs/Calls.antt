@@ -1,7 +1,7 @@
 -- What each call of a sheet answers, and the table that it leaves. Refusals go by number.
 use Prim.Native.Nat.{ℕ}
 use mathlib.Core.Path.{_≡_}
-use mathlib.Core.Bool.{Bool, true, false, cond, _||_}
+use mathlib.Core.Bool.{Bool, true, false, cond, not, _||_}
 use lib.Dec.{ltb, eqb}
 use lib.IntN.{ℤ}
 use lib.Signed.{ltZ}
@@ -20,8 +20,9 @@ use Rattle.sheet.specs.declared.table.Outcome.the-variants as outcome
 use Rattle.sheet.specs.declared.table.State.{State}
 use Rattle.sheet.specs.declared.table.State.the-variants.{Settled, Open, Void}
 use Rattle.sheet.specs.declared.table.Table.{Table}
+use Rattle.sheet.specs.Lines.{checked, drawn-of}
 use Rattle.sheet.specs.Places.{has}
-use Rattle.sheet.specs.Rules.{limited, entered, settled, range-at}
+use Rattle.sheet.specs.Rules.{limited, entered, struck, settled, range-at, row-at}
 
 -- ---- limit: the register (1), the low pattern, then the high (2), their order (3)
 
@@ -50,8 +51,11 @@ enter-answer (Err e) = Err (number-of (e .0), e .1)
 abbrev pub enter-asked : ℕ → CheckedLine → Table → Result (Unit {0}) (ℕ × CheckedLine)
 enter-asked n l t = cond (ltb 63 n) (Err (7, l)) (cond (has (t .standing) n) (Err (6, l)) (Ok tt))
 
+abbrev pub line-table : Meaning → ℕ → Line → Table → Table
+line-table m n l t = cond (ltb 63 n || has (t .standing) n) t (entered m n l t)
+
 abbrev pub enter-table : Meaning → ℕ → CheckedLine → Table → Table
-enter-table m n l t = cond (ltb 63 n || has (t .standing) n) t (entered m n (l .line) t)
+enter-table m n l t = line-table m n (l .line) t
 
 -- ---- a drawn line, checked first and then entered: what a caller of both is answered, and leaves
 
@@ -61,7 +65,18 @@ drawn-asked n (Ok l) t = cond (ltb 63 n) (Err 7) (cond (has (t .standing) n) (Er
 
 abbrev pub drawn-table : Meaning → ℕ → Result Line ℕ → Table → Table
 drawn-table m n (Err e) t = t
-drawn-table m n (Ok l) t = cond (ltb 63 n) t (cond (has (t .standing) n) t (entered m n l t))
+drawn-table m n (Ok l) t = line-table m n l t
+
+-- ---- strike: the place, and whether a line stands there (7)
+
+abbrev pub no-line : ℕ → Table → Bool
+no-line n t = ltb 63 n || not (has (t .standing) n)
+
+abbrev pub strike-asked : ℕ → Table → Result (Unit {0}) ℕ
+strike-asked n t = cond (no-line n t) (Err 7) (Ok tt)
+
+abbrev pub strike-table : Meaning → ℕ → Table → Table
+strike-table m n t = cond (no-line n t) t (struck m n t)
 
 -- ---- settle: the budget (8)
 
@@ -103,3 +118,27 @@ shown r t = cond (ltb 31 r) (Err 1) (Ok (range-at t r))
 abbrev pub in-patterns : Meaning → Result Range ℕ → Result (ℕ × ℕ) ℕ
 in-patterns m (Ok a) = Ok (m .writes (a .low), m .writes (a .high))
 in-patterns m (Err e) = Err e
+
+-- ---- partner: the place, and whether a line stands there (7), the pattern for x, then for z (2), whether the sheet is void (9)
+
+-- two patterns, as ranks
+abbrev pub both-read : Option ℤ → Option ℤ → Result (ℤ × ℤ) ℕ
+both-read None z = Err 2
+both-read (Some x) None = Err 2
+both-read (Some x) (Some z) = Ok (x, z)
+
+-- the y that the catalogue names for the line, in y's shown range, as a pattern
+abbrev pub pattern-or-none : Meaning → Option ℤ → Option ℕ
+pattern-or-none m None = None
+pattern-or-none m (Some y) = Some (m .writes y)
+
+abbrev pub named-partner : Meaning → Line → ℤ × ℤ → Table → Option ℤ
+named-partner m l p t = m .partner (l .kind) (l .modes) (p .0) (p .1) (range-at t (l .y))
+
+abbrev pub partner-of : Meaning → Result Line ℕ → Result (ℤ × ℤ) ℕ → Table → Result (Option ℕ) ℕ
+partner-of m (Err e) p t = Err 7
+partner-of m (Ok l) (Err e) t = Err e
+partner-of m (Ok l) (Ok p) t = cond (is-void (t .state)) (Err 9) (Ok (pattern-or-none m (named-partner m l p t)))
+
+abbrev pub partner-asked : Meaning → ℕ → ℕ → ℕ → Table → Result (Option ℕ) ℕ
+partner-asked m n x z t = cond (no-line n t) (Err 7) (partner-of m (checked (drawn-of (row-at t n))) (both-read (m .reads x) (m .reads z)) t)

@@ -16,7 +16,7 @@ use Rattle.catalogue.specs.Ranges.{meet}
 use Rattle.sheet.specs.declared.lines.Line.{Line}
 use Rattle.sheet.specs.declared.places.Places.{Places}
 use Rattle.sheet.specs.declared.table.Event.{Event}
-use Rattle.sheet.specs.declared.table.Event.the-variants.{Tightened, Loosened, Entered, Step}
+use Rattle.sheet.specs.declared.table.Event.the-variants.{Tightened, Loosened, Entered, Struck, Step}
 use Rattle.sheet.specs.declared.table.Row.{Row}
 use Rattle.sheet.specs.declared.table.State.{State}
 use Rattle.sheet.specs.declared.table.State.the-variants.{Settled, Open, Void}
@@ -63,6 +63,9 @@ with-naming l t = record { limits = t .limits; ranges = t .ranges; rows = t .row
 
 abbrev pub with-line : ℕ → Row → Table → Table
 with-line n w t = record { limits = t .limits; ranges = t .ranges; rows = set (t .rows) n w; standing = with-place n (t .standing); naming = t .naming; due = t .due; state = t .state }
+
+abbrev pub with-standing : Places → Table → Table
+with-standing s t = record { limits = t .limits; ranges = t .ranges; rows = t .rows; standing = s; naming = t .naming; due = t .due; state = t .state }
 
 -- ---- rest, void, and the return to the limits
 
@@ -157,6 +160,9 @@ reacted m Open Loosened at t = returned t
 reacted m Void Entered at t = t
 reacted m Settled Entered at t = made-due at t
 reacted m Open Entered at t = made-due at t
+reacted m Void Struck at t = returned t
+reacted m Settled Struck at t = returned t
+reacted m Open Struck at t = returned t
 reacted m Void Step at t = t
 reacted m Settled Step at t = t
 reacted m Open Step at t = step m t
@@ -186,6 +192,24 @@ placed n l t = with-naming (named n (l .z) (named n (l .y) (named n (l .x) (t .n
 
 abbrev pub entered : Meaning → ℕ → Line → Table → Table
 entered m n l t = reacted m (t .state) Entered n (placed n l t)
+
+-- ---- strike
+
+-- the places of the lines that name each register, without the line at n
+abbrev pub unnamed : ℕ → ℕ → List Places → List Places
+unnamed n r s = set s r (without n (getD s r none))
+
+-- the registers of the line at n are taken out of the index
+abbrev pub unindexed : ℕ → Result Line ℕ → Table → Table
+unindexed n (Err e) t = t
+unindexed n (Ok l) t = with-naming (unnamed n (l .z) (unnamed n (l .y) (unnamed n (l .x) (t .naming)))) t
+
+-- no line stands at a place
+abbrev pub removed : ℕ → Table → Table
+removed n t = unindexed n (checked (drawn-of (row-at t n))) (with-standing (without n (t .standing)) t)
+
+abbrev pub struck : Meaning → ℕ → Table → Table
+struck m n t = reacted m (t .state) Struck n (removed n t)
 
 -- ---- settle
 

@@ -1,7 +1,7 @@
 ghost use mathlib.Core.Path.{_≡_};
 ghost use Rattle.std.specs.Results.{Cases};
 ghost use Rattle.catalogue.specs.Refusals.{numbered};
-ghost use Rattle.sheet.specs.Calls.{done, enter-answer, enter-asked, enter-table, in-patterns, is-settled, is-void, limit-asked, limit-table, limits-read, look-answer, outcome-of, settle-asked, settle-table, shown};
+ghost use Rattle.sheet.specs.Calls.{both-read, done, enter-answer, enter-asked, enter-table, in-patterns, is-settled, is-void, limit-asked, limit-table, limits-read, look-answer, named-partner, no-line, outcome-of, partner-asked, pattern-or-none, settle-asked, settle-table, shown, strike-asked, strike-table};
 ghost use Rattle.sheet.specs.Index.{Indexed};
 ghost use Rattle.sheet.specs.Rules.{new-table};
 use crate::lines::CheckedLine;
@@ -96,6 +96,62 @@ impl<C: Catalogue> Sheet<C> {
         }
         self.table.enter(&self.catalogue, place as u8, line);
         Ok(())
+    }
+
+    /// Whether no line stands at a place, or there is no such place.
+    fn has_no_line(&self, place: u32) -> bool
+        ensures { λ r. ⌜ r ≡ no-line place (now (self .entry) .table) ⌝ }
+    {
+        place > 63 || !self.table.standing.has(place as u8)
+    }
+
+    /// Removes the line at a place; all ranges return to the limits, and the remaining lines are due.
+    pub fn strike(&mut self, place: u32) -> Result<(), Refusal>
+        ensures answer { λ r. ⌜ numbered r ≡ strike-asked place (now (self .entry) .table) ⌝ }
+        ensures table { λ _. ⌜ now (self .exit) .table ≡ strike-table (meaning (now (self .entry) .catalogue)) place (now (self .entry) .table) ⌝ }
+        ensures catalogue { λ _. ⌜ now (self .exit) .catalogue ≡ now (self .entry) .catalogue ⌝ }
+    {
+        if self.has_no_line(place) {
+            return Err(Refusal::NoLineThere);
+        }
+        self.table.strike(&self.catalogue, place as u8);
+        Ok(())
+    }
+
+    /// The ranks of two patterns.
+    fn ranks(&self, x: u32, z: u32) -> Result<(i32, i32), Refusal>
+        ensures { λ r. ⌜ numbered r ≡ both-read (meaning (now (self .entry) .catalogue) .reads x) (meaning (now (self .entry) .catalogue) .reads z) ⌝ }
+    {
+        Ok((self.catalogue.rank(x)?, self.catalogue.rank(z)?))
+    }
+
+    /// Some y of a line's shown range that makes an allowed triple with x and z, as a pattern.
+    fn partner_of(&self, checked: &CheckedLine, x: i32, z: i32) -> Option<u32>
+        ensures { λ r. ⌜ r ≡ pattern-or-none (meaning (now (self .entry) .catalogue)) (named-partner (meaning (now (self .entry) .catalogue)) (now (checked .entry) .line) (x, z) (now (self .entry) .table)) ⌝ }
+    {
+        let line = checked.line;
+        let y = self.table.ranges[line.y as usize];
+        match self.catalogue.partner(line.kind, line.modes, x, z, y) {
+            Some(rank) => Some(self.catalogue.pattern(rank)),
+            None => None,
+        }
+    }
+
+    /// Some y in the shown range of a line's y that makes an allowed triple with the patterns x and z, or none.
+    pub fn partner(&self, place: u32, x: u32, z: u32) -> Result<Option<u32>, Refusal>
+        ensures { λ r. ⌜ numbered r ≡ partner-asked (meaning (now (self .entry) .catalogue)) place x z (now (self .entry) .table) ⌝ }
+    {
+        if self.has_no_line(place) {
+            return Err(Refusal::NoLineThere);
+        }
+        let Ok(line) = self.table.rows[place as usize].drawn().check() else {
+            return Err(Refusal::NoLineThere);
+        };
+        let (x, z) = self.ranks(x, z)?;
+        match self.table.state {
+            State::Void => Err(Refusal::SheetVoid),
+            State::Settled | State::Open => Ok(self.partner_of(&line, x, z)),
+        }
     }
 
     /// Steps until rest or until the budget is spent: how it ended, and how many steps were made.

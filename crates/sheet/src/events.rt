@@ -1,7 +1,8 @@
 ghost use mathlib.Core.Path.{_≡_};
 ghost use Prim.Native.Nat.{_<_};
+ghost use Rattle.std.specs.declared.result.Result.the-variants.{Ok};
 ghost use Rattle.sheet.specs.Events.{Fitting};
-ghost use Rattle.sheet.specs.Rules.{Settling, at-rest, entered, limit-event, limited, named, placed, reacted, settled, with-naming};
+ghost use Rattle.sheet.specs.Rules.{Settling, at-rest, entered, limit-event, limited, named, placed, reacted, removed, settled, struck, unindexed, unnamed, with-naming};
 use crate::lines::CheckedLine;
 use crate::lines::Line;
 use crate::rules::lies_inside;
@@ -33,7 +34,7 @@ impl Table {
             (State::Settled | State::Open, Event::Tightened) => self.cut_to_limits(at),
             (State::Settled | State::Open, Event::Entered) => self.make_due(at),
             (State::Open, Event::Step) => self.step(catalogue),
-            (_, Event::Loosened) => self.return_to_limits(),
+            (_, Event::Loosened | Event::Struck) => self.return_to_limits(),
         }
     }
 
@@ -86,6 +87,44 @@ impl Table {
     {
         self.put(place, checked.line);
         self.react(catalogue, Event::Entered, place);
+    }
+
+    /// Notes that the line at a place names a register no longer.
+    fn unname(&mut self, place: u8, register: u8)
+        requires { ⌜ (place < 64) × (register < 32) ⌝ }
+        ensures { λ _. ⌜ now (self .exit) ≡ with-naming (unnamed place register (now (self .entry) .naming)) (now (self .entry)) ⌝ }
+    {
+        self.naming[register as usize] = self.naming[register as usize].without(place);
+    }
+
+    /// Takes the registers of a checked line out of the index.
+    fn unname_line(&mut self, place: u8, checked: &CheckedLine)
+        requires { ⌜ place < 64 ⌝ }
+        ensures { λ _. ⌜ now (self .exit) ≡ unindexed place (Ok (now (checked .entry) .line)) (now (self .entry)) ⌝ }
+    {
+        self.unname(place, checked.line.x);
+        self.unname(place, checked.line.y);
+        self.unname(place, checked.line.z);
+    }
+
+    /// Removes the line at a place.
+    fn remove(&mut self, place: u8)
+        requires { ⌜ place < 64 ⌝ }
+        ensures { λ _. ⌜ now (self .exit) ≡ removed place (now (self .entry)) ⌝ }
+    {
+        self.standing = self.standing.without(place);
+        if let Ok(line) = self.rows[place as usize].drawn().check() {
+            self.unname_line(place, &line);
+        }
+    }
+
+    /// Strikes the line at a place.
+    pub(crate) fn strike<C: Catalogue>(&mut self, catalogue: &C, place: u8)
+        requires { ⌜ place < 64 ⌝ }
+        ensures { λ _. ⌜ now (self .exit) ≡ struck (meaning (now (catalogue .entry))) place (now (self .entry)) ⌝ }
+    {
+        self.remove(place);
+        self.react(catalogue, Event::Struck, place);
     }
 
     /// Steps until rest, or until the budget is spent; answers how many steps were made.

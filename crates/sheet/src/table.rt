@@ -42,6 +42,8 @@ pub enum Event {
     Loosened,
     /// A line was put at a place.
     Entered,
+    /// The line at a place was removed.
+    Struck,
     /// A step is to be made.
     Step,
 }
