@@ -1,6 +1,6 @@
 -- Sets of places as bits: the lowest place, and which places a changed set has.
 use Prim.Native.Nat.{ℕ, zero, suc, _+_, _^_, _/_, _%_, _<_, _≤_, max}
-use mathlib.Core.Bool.{Bool, true, false}
+use mathlib.Core.Bool.{Bool, true, false, _||_}
 use mathlib.Core.Path.{_≡_, refl, sym, ap, subst, _∙_}
 use mathlib.Core.Logic.{_⊎_, inl, inr, ⊎-elim}
 use native.Mathlib.Omega.{arith}
@@ -11,9 +11,11 @@ use lib.Bits.{bitOr, bitXor, or-step, or-shr, xor-step, xor-shr}
 use lib.Count.{trailingZeros, under}
 use lib.Dec.{eqb}
 use Rattle.std.proofs.shelf.Bits.{shr-shr}
-use Rattle.std.proofs.shelf.Tests.{eq-eqb, ne-eqb, eqb-true, cond-both}
+use Rattle.std.proofs.shelf.Tests.{eq-eqb, ne-eqb, eqb-true, eqb-false, cond-both, cond-true, cond-false, cases-bool}
+use Rattle.std.specs.declared.option.Option.{Option}
+use Rattle.std.specs.declared.option.Option.the-variants.{Some, None}
 use Rattle.sheet.specs.declared.places.Places.{Places}
-use Rattle.sheet.specs.Places.{has, with-place, without}
+use Rattle.sheet.specs.Places.{has, none, with-place, without, union, is-none, lowest}
 
 -- bit i of a number
 abbrev pub bit : ℕ → ℕ → ℕ
@@ -129,3 +131,54 @@ pub without-other : (n : ℕ) (s : Places) (k : ℕ) → (k ≡ n → ⊥) → h
 without-other n s k ne = cond-both (has s n) (gone n s) s (λ u. has u k ≡ has s k)
     (λ e. ap (λ q. eqb q 1) (xor-bit (s .bits) (2 ^ n) k ∙ differ-none (bit (s .bits) k) (bit (2 ^ n) k) (pow-other n k ne)))
     (λ e. refl)
+
+-- ---- the union has what either has
+abbrev one? : ℕ → Bool
+one? q = eqb q 1
+
+max-bits : (x y : ℕ) → x < 2 → y < 2 → one? (max x y) ≡ (one? x || one? y)
+max-bits zero zero p q = refl
+max-bits zero (suc zero) p q = refl
+max-bits (suc zero) zero p q = refl
+max-bits (suc zero) (suc zero) p q = refl
+max-bits zero (suc (suc y)) p q = absurd (omega arith)
+max-bits (suc zero) (suc (suc y)) p q = absurd (omega arith)
+max-bits (suc (suc x)) y p q = absurd (omega arith)
+
+pub union-has : (s u : Places) (k : ℕ) → has (union s u) k ≡ (has s k || has u k)
+union-has s u k = ap one? (or-bit (s .bits) (u .bits) k) ∙ max-bits (bit (s .bits) k) (bit (u .bits) k) (bit-below (s .bits) k) (bit-below (u .bits) k)
+
+-- ---- an empty set, and the lowest place of another
+pub none-has : (s : Places) → is-none s ≡ true → (k : ℕ) → has s k ≡ false
+none-has s h k = has-false s k (ap (λ b. bit b k) (eqb-true (s .bits) 0 h) ∙ zero-bit k)
+
+bit-false : (s : Places) (k : ℕ) → has s k ≡ false → bit (s .bits) k ≡ 0
+bit-false s k h = let ne : bit (s .bits) k ≡ 1 → ⊥ = eqb-false (bit (s .bits) k) 1 h in omega (arith, bit-below (s .bits) k)
+
+-- a number whose bits are all 0 is 0
+no-bits : (f n : ℕ) → n ≤ f → ((i : ℕ) → bit n i ≡ 0) → n ≡ 0
+no-bits zero n le h = omega arith
+no-bits (suc f) n le h =
+    let half = no-bits f (n / 2) (omega arith) (λ i. sym (bit-suc n i) ∙ h (suc i)) in
+    let low : n % 2 ≡ 0 = sym (bit-zero n) ∙ h 0 in
+    omega arith
+
+-- a set of places below 64 is a number below 2 ^ 64
+pub set-below : (s : Places) → ((k : ℕ) → has s k ≡ true → k < 64) → s .bits < 2 ^ 64
+set-below s h =
+    let top : s .bits / 2 ^ 64 ≡ 0 = no-bits (s .bits / 2 ^ 64) (s .bits / 2 ^ 64) (omega arith) (λ i.
+        ap (λ q. q % 2) (shr-shr (s .bits) 64 i) ∙ bit-false s (64 + i) (⊎-elim (λ e. absurd (far i (h (64 + i) e))) (λ e. e) (cases-bool (has s (64 + i))))) in
+    omega arith
+  where
+    far : (i : ℕ) → 64 + i < 64 → ⊥
+    far i l = omega arith
+
+pub lowest-in : (s : Places) (n : ℕ) → ((k : ℕ) → has s k ≡ true → k < 64) → lowest s ≡ Some n → has s n ≡ true
+lowest-in s n h e = ⊎-elim
+    (λ d. let k = sym (cond-true (is-none s) None (Some (trailingZeros 64 (s .bits))) d) ∙ e in let z : _≡_ {A = ℕ} 0 1 = cc in absurd (omega arith))
+    (λ d. let k = sym (cond-false (is-none s) None (Some (trailingZeros 64 (s .bits))) d) ∙ e in
+          let i : trailingZeros 64 (s .bits) ≡ n = cc in
+          let ne : s .bits ≡ 0 → ⊥ = eqb-false (s .bits) 0 d in
+          let t = trails 64 (s .bits) (omega arith) (set-below s h) in
+          subst (λ j. has s j ≡ true) i (has-true s (trailingZeros 64 (s .bits)) (t .here)))
+    (cases-bool (is-none s))
