@@ -4,3 +4,5 @@ pub mod Settles
 pub mod Indexes
 -- The promise: the invariant of every table, that every call keeps it, and what it says of a sheet.
 pub mod Remade
+pub mod Unmoving
+pub mod Sounds
