@@ -6,3 +6,4 @@ pub mod Indexes
 pub mod Remade
 pub mod Unmoving
 pub mod Sounds
+pub mod Cutting
