@@ -129,6 +129,9 @@ cut-self at t shape n l here r lt nm b du =
       (λ d. (cond-false (smaller new a) (changed r new t) t d, covers a b d))
       (cases-bool (smaller new a))
 
+pub cut-limits : (r : ℕ) (b : Range) (t : Table) → cut-table r b t .limits ≡ t .limits
+cut-limits r b t = cond-both (smaller (meet (range-at t r) b) (range-at t r)) (changed r (meet (range-at t r) b) t) t (λ u. u .limits ≡ t .limits) (λ _. refl) (λ _. refl)
+
 -- the registers that a line names
 pub names-x : (l : Line) → names (l .x) (row-of l) ≡ true
 names-x l = or-left (eqb (l .x) (l .x)) (eqb (l .y) (l .x) || eqb (l .z) (l .x)) (eq-eqb (l .x) (l .x) refl)

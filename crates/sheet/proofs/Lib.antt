@@ -7,3 +7,5 @@ pub mod Remade
 pub mod Unmoving
 pub mod Sounds
 pub mod Cutting
+pub mod Resting
+pub mod Stepping
