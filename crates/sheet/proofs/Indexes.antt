@@ -111,7 +111,7 @@ module _ (m : Meaning) where
       (λ _. same-lines t) (λ _. lines-then _ _ t (settled-lines b _) (reacted-lines (t .state) Step 0 t))
 
 -- ---- a new table, and a line that is put at a free place
-getD-same : (k i : ℕ) → getD (replicate k none) i none ≡ none
+pub getD-same : (k i : ℕ) → getD (replicate k none) i none ≡ none
 getD-same zero i = refl
 getD-same (suc k) zero = refl
 getD-same (suc k) (suc i) = getD-same k i
@@ -136,7 +136,7 @@ new-made m all p e f =
     (same, subst Indexed (sym same) (new-indexed m))
 
 -- the line at n names r
-named-at : (n x : ℕ) (s : List Places) (r k : ℕ) → x < length s → has (getD (named n x s) r none) k ≡ (has (getD s r none) k || (eqb x r && eqb k n))
+pub named-at : (n x : ℕ) (s : List Places) (r k : ℕ) → x < length s → has (getD (named n x s) r none) k ≡ (has (getD s r none) k || (eqb x r && eqb k n))
 named-at n x s r k lt = ⊎-elim
     (λ (e : r ≡ x). subst (λ q. has (getD (named n x s) q none) k ≡ (has (getD s q none) k || (eqb x q && eqb k n))) (sym e)
     (ap (λ p. has p k) (getD-set-same s x (with-place n (getD s x none)) none lt)
@@ -163,7 +163,7 @@ named-at n x s r k lt = ⊎-elim
         (λ (ne : k ≢ n). with-other n p k ne ∙ alone (has p k) ∙ ap (λ b. has p k || (true && b)) (sym (ne-eqb k n ne)))
         (cases-eq k n)
 
-length-named : (n x : ℕ) (s : List Places) → length (named n x s) ≡ length s
+pub length-named : (n x : ℕ) (s : List Places) → length (named n x s) ≡ length s
 length-named n x s = simp length-set
 
 merge : (a x y z k : Bool) → (((a || (x && k)) || (y && k)) || (z && k)) ≡ (a || ((x || (y || z)) && k))

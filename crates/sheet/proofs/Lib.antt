@@ -9,3 +9,4 @@ pub mod Sounds
 pub mod Cutting
 pub mod Resting
 pub mod Stepping
+pub mod Placing
