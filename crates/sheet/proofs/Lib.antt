@@ -10,3 +10,4 @@ pub mod Cutting
 pub mod Resting
 pub mod Stepping
 pub mod Placing
+pub mod Changing
