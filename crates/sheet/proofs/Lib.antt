@@ -11,3 +11,5 @@ pub mod Resting
 pub mod Stepping
 pub mod Placing
 pub mod Changing
+pub mod Recounting
+pub mod Promised
