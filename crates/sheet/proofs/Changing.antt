@@ -1,20 +1,17 @@
 -- A limit, an enter and a strike that are carried out leave a sound table.
 use Prim.Native.Nat.{ℕ, _<_}
-use mathlib.Core.Bool.{Bool, true, false, cond, not, _&&_}
-use mathlib.Core.List.{List}
-use mathlib.Core.Logic.{_⊎_, inl, inr, ⊎-elim, _≢_}
+use mathlib.Core.Bool.{true, false, not}
+use mathlib.Core.Logic.{⊎-elim, _≢_}
 use mathlib.Core.Path.{_≡_, refl, sym, _∙_, ap, subst}
 use native.Mathlib.Omega.{arith}
-use lib.IntN.{ℤ}
-use lib.Signed.{_≤ℤ_, _<ℤ_, ltZ}
+use lib.Signed.{ltZ}
 use lib.ListN.{length, getD, set}
-use Rattle.std.specs.declared.option.Option.{Option}
 use Rattle.std.specs.declared.option.Option.the-variants.{Some, None}
 use Rattle.std.proofs.shelf.Lists.{getD-set-same, getD-set-other, length-set}
 use Rattle.std.proofs.shelf.Signed.{ints}
-use Rattle.std.proofs.shelf.Tests.{cases-eq, cases-bool, both-ways, cond-both, and-parts, not-true}
+use Rattle.std.proofs.shelf.Tests.{cases-eq, both-ways, cond-both, and-parts, not-true}
 use Rattle.catalogue.specs.declared.types.Range.{Range}
-use Rattle.catalogue.specs.Meanings.{Meaning, Laws, all-readings}
+use Rattle.catalogue.specs.Meanings.{Meaning, all-readings}
 use Rattle.catalogue.specs.Ranges.{Within, Proper, meet}
 use Rattle.sheet.specs.declared.lines.Line.{Line}
 use Rattle.sheet.specs.declared.table.Event.the-variants.{Tightened, Loosened, Entered, Struck}
@@ -24,8 +21,8 @@ use Rattle.sheet.specs.declared.table.Table.{Table}
 use Rattle.sheet.specs.Calls.{is-void}
 use Rattle.sheet.specs.Histories.{passes-check}
 use Rattle.sheet.specs.Places.{has, with-place}
-use Rattle.sheet.specs.Promise.{Ranges, Inside}
-use Rattle.sheet.specs.Rules.{no-range, range-at, limits-at, at-rest, empty, cut-table, cut, cut-to-limits, or-void, with-limits, inside, limit-event, limited, placed, entered, removed, struck, reacted, made-due, returned}
+use Rattle.sheet.specs.Promise.{Ranges}
+use Rattle.sheet.specs.Rules.{no-range, range-at, limits-at, empty, cut-table, cut-to-limits, or-void, with-limits, inside, limited, placed, entered, removed, struck, reacted, made-due, returned}
 use Rattle.sheet.proofs.Cutting.{shape-same, cut-live, cut-none, cut-within, cut-limits}
 use Rattle.sheet.proofs.PlaceSets.{with-here, with-other}
 use Rattle.sheet.proofs.Placing.{placed-shape, removed-shape, removed-limits}

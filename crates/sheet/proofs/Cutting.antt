@@ -1,29 +1,25 @@
 -- A cut keeps what holds of a table that is not void.
 use Prim.Native.Nat.{ℕ, _<_}
-use mathlib.Core.Bool.{Bool, true, false, cond, _&&_, _||_}
-use mathlib.Core.List.{List}
-use mathlib.Core.Logic.{_⊎_, inl, inr, ⊎-elim, _≢_}
+use mathlib.Core.Bool.{true, false, _&&_, _||_}
+use mathlib.Core.Logic.{⊎-elim, _≢_}
 use mathlib.Core.Path.{_≡_, refl, sym, _∙_, ap, subst}
 use native.Mathlib.Omega.{arith}
 use lib.Dec.{eqb}
 use lib.ListN.{length, getD, set}
-use Rattle.std.specs.declared.option.Option.{Option}
-use Rattle.std.specs.declared.option.Option.the-variants.{Some, None}
+use Rattle.std.specs.declared.option.Option.the-variants.{Some}
 use Rattle.std.proofs.shelf.Lists.{getD-set-same, getD-set-other, length-set}
-use Rattle.std.proofs.shelf.Tests.{cases-eq, cases-bool, both-ways, cond-true, cond-false, cond-both, eqb-false, eq-eqb, and-from, and-parts, or-cases, or-left, or-right, or-parts}
+use Rattle.std.proofs.shelf.Tests.{cases-eq, cases-bool, both-ways, cond-true, cond-false, cond-both, eqb-false, eq-eqb, and-parts, or-cases, or-left, or-right, or-parts}
 use Rattle.catalogue.specs.declared.types.Range.{Range}
 use Rattle.catalogue.specs.Meanings.{Meaning}
 use Rattle.catalogue.specs.Ranges.{Within, Proper, meet}
 use Rattle.sheet.specs.declared.lines.Line.{Line}
-use Rattle.sheet.specs.declared.places.Places.{Places}
-use Rattle.sheet.specs.declared.table.Row.{Row}
 use Rattle.sheet.specs.declared.table.Table.{Table}
-use Rattle.sheet.specs.Index.{names, Indexed}
+use Rattle.sheet.specs.Index.{names}
 use Rattle.sheet.specs.Lines.{row-of}
-use Rattle.sheet.specs.Places.{has, none, union}
-use Rattle.sheet.specs.Promise.{Ranges, Inside}
-use Rattle.sheet.specs.Rules.{no-range, no-row, range-at, row-at, naming-at, empty, smaller, changed, cut-table, cut}
-use Rattle.sheet.proofs.Indexes.{SameLines, index-same, cut-table-lines}
+use Rattle.sheet.specs.Places.{has, none}
+use Rattle.sheet.specs.Promise.{Ranges}
+use Rattle.sheet.specs.Rules.{no-range, no-row, range-at, row-at, naming-at, empty, smaller, changed, cut-table}
+use Rattle.sheet.proofs.Indexes.{SameLines, index-same}
 use Rattle.sheet.proofs.PlaceSets.{union-has}
 use Rattle.sheet.proofs.Sounds.{Drawn, Shape, Stands, Live}
 use Rattle.sheet.proofs.Unmoving.{Unmoved, unmoved-same, within-then, within-meet, meet-left, meet-right, some-left, proper-from, covers}

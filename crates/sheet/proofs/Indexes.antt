@@ -52,7 +52,7 @@ index-same t u s i = record {
       ∙ ap (λ p. has p n && names r (row-at u n)) (sym (s .standing)) ∙ ap (λ l. has (t .standing) n && names r (getD l n no-row)) (sym (s .rows));
 }
 
-pub cut-table-lines : (r : ℕ) (b : Range) (t : Table) → SameLines (cut-table r b t) t
+cut-table-lines : (r : ℕ) (b : Range) (t : Table) → SameLines (cut-table r b t) t
 cut-table-lines r b t = cond-both (smaller (meet (range-at t r) b) (range-at t r)) (changed r (meet (range-at t r) b) t) t (λ u. SameLines u t) (λ _. record { rows = refl; standing = refl; naming = refl }) (λ _. same-lines t)
 
 -- what a cut, if it leaves something, keeps

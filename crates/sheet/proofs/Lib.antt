@@ -7,6 +7,7 @@ pub mod Remade
 pub mod Unmoving
 pub mod Sounds
 pub mod Cutting
+pub mod Alone
 pub mod Resting
 pub mod Stepping
 pub mod Placing

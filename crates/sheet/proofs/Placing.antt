@@ -1,29 +1,27 @@
 -- The lines of a table after one is put at a free place, or taken away.
 use Prim.Native.Nat.{ℕ, _<_}
-use mathlib.Core.Bool.{Bool, true, false, cond, not, _&&_, _||_}
+use mathlib.Core.Bool.{Bool, true, false, not, _&&_, _||_}
 use mathlib.Core.List.{List}
-use mathlib.Core.Logic.{_⊎_, inl, inr, ⊎-elim, _≢_}
+use mathlib.Core.Logic.{⊎-elim, _≢_}
 use mathlib.Core.Path.{_≡_, refl, sym, _∙_, ap, subst}
 use native.Mathlib.Omega.{arith}
 use lib.Dec.{eqb}
-use lib.ListN.{length, getD, set}
-use Rattle.std.specs.declared.option.Option.{Option}
+use lib.ListN.{length, getD}
 use Rattle.std.specs.declared.option.Option.the-variants.{Some, None}
-use Rattle.std.specs.declared.result.Result.{Result}
-use Rattle.std.specs.declared.result.Result.the-variants.{Ok, Err}
+use Rattle.std.specs.declared.result.Result.the-variants.{Ok}
 use Rattle.std.proofs.shelf.Lists.{getD-set-same, getD-set-other, length-set}
-use Rattle.std.proofs.shelf.Tests.{cases-eq, both-ways, eqb-true, eq-eqb, ne-eqb, and-parts, or-cases}
+use Rattle.std.proofs.shelf.Tests.{cases-eq, eqb-true, eq-eqb, ne-eqb, and-parts, or-cases}
 use Rattle.sheet.specs.declared.lines.Line.{Line}
 use Rattle.sheet.specs.declared.places.Places.{Places}
 use Rattle.sheet.specs.declared.table.Table.{Table}
 use Rattle.sheet.specs.Histories.{passes-check}
 use Rattle.sheet.specs.Index.{names, Indexed}
 use Rattle.sheet.specs.Lines.{row-of, drawn-of, checked}
-use Rattle.sheet.specs.Places.{has, none, with-place, without}
-use Rattle.sheet.specs.Rules.{no-row, row-at, naming-at, named, placed, unnamed, unindexed, removed, with-naming, with-standing}
+use Rattle.sheet.specs.Places.{has, none, without}
+use Rattle.sheet.specs.Rules.{no-row, row-at, naming-at, named, placed, unnamed, unindexed, removed, with-standing}
 use Rattle.sheet.proofs.Indexes.{named-at, length-named, placed-indexed}
 use Rattle.sheet.proofs.PlaceSets.{with-here, with-other, without-here, without-other}
-use Rattle.sheet.proofs.Remade.{Passes, passing, remade}
+use Rattle.sheet.proofs.Remade.{passing, remade}
 use Rattle.sheet.proofs.Sounds.{Drawn, Stands, Shape}
 
 -- ---- the places of the lines that name each register are below 64

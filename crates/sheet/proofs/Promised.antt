@@ -1,8 +1,8 @@
 -- The promise, kept: a settled sheet shows the greatest consistent set within its limits, and sheets with the same limits and lines come to the same rest.
 use Prim.Native.Nat.{ℕ, _<_}
-use mathlib.Core.Bool.{Bool, true, false}
+use mathlib.Core.Bool.{true, false}
 use mathlib.Core.List.{List, [], _∷_}
-use mathlib.Core.Logic.{_⊎_, inl, inr, ⊎-elim, _≢_}
+use mathlib.Core.Logic.{inl, inr, ⊎-elim, _≢_}
 use mathlib.Core.Path.{_≡_, refl, sym, _∙_, ap, subst}
 use native.Mathlib.Omega.{arith}
 use lib.IntN.{ℤ}
@@ -10,22 +10,20 @@ use Rattle.std.specs.declared.option.Option.{Option}
 use Rattle.std.specs.declared.option.Option.the-variants.{Some, None}
 use Rattle.std.proofs.shelf.Signed.{ints}
 use Rattle.std.proofs.shelf.Tests.{cases-eq, both-ways}
-use Rattle.catalogue.specs.declared.types.Range.{Range}
 use Rattle.catalogue.specs.declared.types.Triple.{Triple}
 use Rattle.catalogue.specs.Meanings.{Meaning, Laws, all-readings}
 use Rattle.catalogue.specs.Ranges.{Holds, HoldsO, Within, WithinO}
 use Rattle.sheet.specs.declared.lines.Line.{Line}
 use Rattle.sheet.specs.declared.table.State.{State}
 use Rattle.sheet.specs.declared.table.State.the-variants.{Settled, Open, Void}
-use Rattle.sheet.specs.declared.table.Table.{Table}
 use Rattle.sheet.specs.Calls.{is-void}
-use Rattle.sheet.specs.Histories.{Call, settle, strike, enter, after, limits-of, line-at, Has-line}
+use Rattle.sheet.specs.Histories.{Call, strike, enter, after, limits-of, line-at, Has-line}
 use Rattle.sheet.specs.Promise.{Ranges, Assignment, given-to, Consistent, Inside, In-limits, Keeps, Shows, Same-lines, Same-limits, Alike, Rests, Promise, For-every-catalogue, settles, Consequences}
 use Rattle.sheet.specs.Rules.{range-at, at-rest}
 use Rattle.sheet.proofs.Recounting.{after-sound, entering-off, entering-own, striking-off, striking-own}
 use Rattle.sheet.proofs.Remade.{passing}
-use Rattle.sheet.proofs.Sounds.{Fixed, Sound, Live, nowhere}
-use Rattle.sheet.proofs.Unmoving.{Unmoved, unchanged, unmoved, within-both, within-then}
+use Rattle.sheet.proofs.Sounds.{Fixed, nowhere}
+use Rattle.sheet.proofs.Unmoving.{unchanged, unmoved, within-both, within-then}
 
 not-void : (s : State) → (s ≡ Void → ⊥) → is-void s ≡ false
 not-void Settled h = refl

@@ -2,13 +2,13 @@
 use Prim.Native.Nat.{ℕ, _<_, _≤_}
 use mathlib.Core.Bool.{Bool, true, false, cond, not, _&&_, _||_}
 use mathlib.Core.List.{List, [], _∷_}
-use mathlib.Core.Logic.{_⊎_, inl, inr, ⊎-elim, _≢_}
+use mathlib.Core.Logic.{⊎-elim, _≢_}
 use mathlib.Core.Path.{_≡_, refl, sym, _∙_, ap, subst, fun-ext}
 use native.Mathlib.Omega.{arith}
 use lib.Dec.{eqb, ltb}
 use lib.IntN.{ℤ}
-use lib.Signed.{_≤ℤ_, _<ℤ_, ltZ}
-use lib.ListN.{length, getD, replicate}
+use lib.Signed.{_≤ℤ_, ltZ}
+use lib.ListN.{getD, replicate}
 use Rattle.std.specs.Options.{isSome}
 use Rattle.std.specs.declared.option.Option.{Option}
 use Rattle.std.specs.declared.option.Option.the-variants.{Some, None}
@@ -16,21 +16,21 @@ use Rattle.std.specs.declared.result.Result.{Result}
 use Rattle.std.specs.declared.result.Result.the-variants.{Ok, Err}
 use Rattle.std.proofs.shelf.Lists.{getD-replicate}
 use Rattle.std.proofs.shelf.Signed.{ints}
-use Rattle.std.proofs.shelf.Tests.{cases-eq, cases-bool, both-ways, cond-true, cond-false, cond-both, eq-eqb, ne-eqb, ltb-true, ltb-false, lt-ltb, le-ltb, and-from, and-left, and-right, or-cases, or-parts, not-true, not-false, not-from-true, not-from-false}
+use Rattle.std.proofs.shelf.Tests.{cases-eq, cases-bool, both-ways, cond-true, cond-false, cond-both, eq-eqb, ne-eqb, ltb-true, ltb-false, lt-ltb, le-ltb, and-from, and-left, and-right, or-cases, or-parts, not-true, not-false}
 use Rattle.catalogue.specs.declared.types.Range.{Range}
 use Rattle.catalogue.specs.Meanings.{Meaning, Laws, all-readings}
-use Rattle.catalogue.specs.Ranges.{Holds, Within, Proper}
+use Rattle.catalogue.specs.Ranges.{Within, Proper}
 use Rattle.sheet.specs.declared.lines.Line.{Line}
 use Rattle.sheet.specs.declared.table.Table.{Table}
-use Rattle.sheet.specs.Calls.{is-void, limits-read, limit-asked, limit-table, line-table, strike-table, settle-table, no-line, bad-budget}
-use Rattle.sheet.specs.Histories.{Call, limit, enter, strike, settle, look, partner, passes-check, called, after, limits-got, limits-of, line-at}
+use Rattle.sheet.specs.Calls.{limits-read, limit-asked, limit-table, line-table, strike-table, no-line, bad-budget}
+use Rattle.sheet.specs.Histories.{Call, limit, enter, strike, settle, look, partner, passes-check, after, limits-got, limits-of, line-at}
 use Rattle.sheet.specs.Places.{has, none}
 use Rattle.sheet.specs.Promise.{Ranges}
 use Rattle.sheet.specs.Rules.{no-range, new-table, limited, entered, struck, settled}
 use Rattle.sheet.proofs.Changing.{limited-sound, entered-sound, struck-sound}
 use Rattle.sheet.proofs.Indexes.{new-indexed, getD-same}
 use Rattle.sheet.proofs.PlaceSets.{none-has}
-use Rattle.sheet.proofs.Sounds.{Drawn, Fixed, Stands, Shape, Limited, Live, Sound, nowhere}
+use Rattle.sheet.proofs.Sounds.{Drawn, Shape, Sound}
 use Rattle.sheet.proofs.Stepping.{line-of, settled-sound}
 use Rattle.sheet.proofs.Unmoving.{within-self}
 

@@ -1,25 +1,16 @@
 -- Tables put to rest, made void, and returned to their limits are sound.
-use Prim.Native.Nat.{ℕ, _<_}
 use mathlib.Core.Bool.{Bool, true, false, cond}
-use mathlib.Core.Logic.{_⊎_, inl, inr, ⊎-elim}
-use mathlib.Core.Path.{_≡_, refl, sym, _∙_, ap, subst}
-use lib.ListN.{length}
-use Rattle.std.specs.declared.option.Option.{Option}
-use Rattle.std.specs.declared.option.Option.the-variants.{Some, None}
+use mathlib.Core.Path.{_≡_, refl, sym, subst}
 use Rattle.std.proofs.shelf.Tests.{both-ways}
-use Rattle.catalogue.specs.declared.types.Range.{Range}
 use Rattle.catalogue.specs.Meanings.{Meaning}
 use Rattle.catalogue.specs.Ranges.{Within, Proper}
-use Rattle.sheet.specs.declared.lines.Line.{Line}
-use Rattle.sheet.specs.declared.table.State.{State}
-use Rattle.sheet.specs.declared.table.State.the-variants.{Settled, Open, Void}
+use Rattle.sheet.specs.declared.table.State.the-variants.{Settled, Open}
 use Rattle.sheet.specs.declared.table.Table.{Table}
 use Rattle.sheet.specs.Calls.{is-void}
 use Rattle.sheet.specs.Places.{has, none, is-none}
 use Rattle.sheet.specs.Promise.{Ranges}
-use Rattle.sheet.specs.Rules.{range-at, limits-at, at-rest, rested, voided, returned, with-state, with-due, with-ranges}
+use Rattle.sheet.specs.Rules.{at-rest, rested, voided, returned, with-due, with-ranges}
 use Rattle.sheet.proofs.Cutting.{shape-same}
-use Rattle.sheet.proofs.Indexes.{SameLines}
 use Rattle.sheet.proofs.PlaceSets.{none-has}
 use Rattle.sheet.proofs.Sounds.{Drawn, Fixed, Shape, Limited, Live, Sound, nowhere}
 use Rattle.sheet.proofs.Unmoving.{within-self}

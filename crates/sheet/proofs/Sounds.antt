@@ -1,11 +1,10 @@
 -- What holds of the table of every sheet, by its lines and its limits.
 use Prim.Native.Nat.{ℕ, _<_}
-use mathlib.Core.Bool.{Bool, true, false}
+use mathlib.Core.Bool.{true, false}
 use mathlib.Core.Path.{_≡_}
 use lib.ListN.{length}
 use Rattle.std.specs.declared.option.Option.{Option}
 use Rattle.std.specs.declared.option.Option.the-variants.{Some, None}
-use Rattle.catalogue.specs.declared.types.Range.{Range}
 use Rattle.catalogue.specs.Meanings.{Meaning, all-readings}
 use Rattle.catalogue.specs.Ranges.{Within, Proper}
 use Rattle.sheet.specs.declared.lines.Line.{Line}

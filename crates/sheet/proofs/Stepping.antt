@@ -1,19 +1,18 @@
 -- A step keeps a table sound, and so does a settle.
 use Prim.Native.Nat.{ℕ, zero, suc, _<_}
-use mathlib.Core.Bool.{Bool, true, false, cond}
-use mathlib.Core.Logic.{_⊎_, inl, inr, ⊎-elim}
+use mathlib.Core.Bool.{true, false}
+use mathlib.Core.Logic.{⊎-elim}
 use mathlib.Core.Path.{_≡_, refl, sym, _∙_, ap, subst}
 use native.Mathlib.Omega.{arith}
 use lib.ListN.{length, getD}
 use Rattle.std.specs.declared.option.Option.{Option}
 use Rattle.std.specs.declared.option.Option.the-variants.{Some, None}
-use Rattle.std.specs.declared.result.Result.{Result}
-use Rattle.std.specs.declared.result.Result.the-variants.{Ok, Err}
+use Rattle.std.specs.declared.result.Result.the-variants.{Ok}
 use Rattle.std.proofs.shelf.Tests.{both-ways, cases-eq, cond-both}
 use Rattle.catalogue.specs.declared.types.Range.{Range}
 use Rattle.catalogue.specs.declared.types.Triple.{Triple}
 use Rattle.catalogue.specs.Meanings.{Meaning, Laws}
-use Rattle.catalogue.specs.Ranges.{Within, Within3, WithinO, Proper, meet}
+use Rattle.catalogue.specs.Ranges.{Within, WithinO, meet}
 use Rattle.sheet.specs.declared.lines.Line.{Line}
 use Rattle.sheet.specs.declared.table.Event.the-variants.{Step}
 use Rattle.sheet.specs.declared.table.State.{State}
@@ -26,11 +25,10 @@ use Rattle.sheet.specs.Places.{has, without, lowest}
 use Rattle.sheet.specs.Promise.{Ranges, given-to}
 use Rattle.sheet.specs.Rules.{no-range, range-at, row-at, at-rest, empty, cut-table, cut, then, given, absorbed, narrowed-by, or-void, step-line, step-at, reacted, settled, after-steps, with-due}
 use Rattle.sheet.proofs.Cutting.{shape-same, cut-live, cut-none, cut-self, cut-limits, names-x, names-y, names-z}
-use Rattle.sheet.proofs.Indexes.{SameLines}
 use Rattle.sheet.proofs.PlaceSets.{without-here, without-other, lowest-in}
 use Rattle.sheet.proofs.Remade.{Passes, passing, remade}
 use Rattle.sheet.proofs.Resting.{rested-sound, voided-sound}
-use Rattle.sheet.proofs.Sounds.{Drawn, Fixed, Stands, Shape, Limited, Live, Sound, nowhere}
+use Rattle.sheet.proofs.Sounds.{Drawn, Fixed, Shape, Limited, Live, Sound, nowhere}
 use Rattle.sheet.proofs.Unmoving.{Unmoved, Stays, within-some}
 
 -- the line that stands at a place
