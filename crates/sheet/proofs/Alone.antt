@@ -53,19 +53,19 @@ cut-table-left r b t lt wide =
     let new = meet a b in
     let in-table : r < length (t .ranges) = omega arith in
     cond-both (smaller new a) (changed r new t) t (Left r b t)
-      (λ _. record {
-        wide = length-set (t .ranges) r new ∙ wide;
-        inside = changed-at r new t in-table (λ q v. Within v (range-at t q)) (meet-left a b) (λ q _. within-self (range-at t q));
-        here = changed-at r new t in-table (λ q v. q ≡ r → Within v b) (λ _. meet-right a b) (λ q ne e. absurd (ne e)) r refl;
-      })
-      (λ d. record { wide = wide; inside = λ q. within-self (range-at t q); here = covers a b d })
+    (λ _. record {
+      wide = length-set (t .ranges) r new ∙ wide;
+      inside = changed-at r new t in-table (λ q v. Within v (range-at t q)) (meet-left a b) (λ q _. within-self (range-at t q));
+      here = changed-at r new t in-table (λ q v. q ≡ r → Within v b) (λ _. meet-right a b) (λ q ne e. absurd (ne e)) r refl;
+    })
+    (λ d. record { wide = wide; inside = λ q. within-self (range-at t q); here = covers a b d })
 
 cut-left : (r : ℕ) (b : Range) (t u : Table) → r < 32 → length (t .ranges) ≡ 32 → cut r b t ≡ Some u → Left r b t u
 cut-left r b t u lt wide e = ⊎-elim
     (λ d. let h = sym (cond-true (empty (meet (range-at t r) b)) None (Some (cut-table r b t)) d) ∙ e in let z : _≡_ {A = ℕ} 0 1 = cc in absurd (omega arith))
     (λ d. let h = sym (cond-false (empty (meet (range-at t r) b)) None (Some (cut-table r b t)) d) ∙ e in
-          let same : cut-table r b t ≡ u = cc in
-          subst (Left r b t) same (cut-table-left r b t lt wide))
+    let same : cut-table r b t ≡ u = cc in
+    subst (Left r b t) same (cut-table-left r b t lt wide))
     (cases-bool (empty (meet (range-at t r) b)))
 
 then-some : (o : Option Table) (f : Table → Option Table) (u : Table) → then o f ≡ Some u → (v : Table) × (o ≡ Some v) × (f v ≡ Some u)

@@ -47,9 +47,9 @@ module _ (m : Meaning) (old new : Ranges) (at : Drawn) (t : Table) (sound : Soun
   reset-at P here other q =
       let in-list : r < length (t .limits) = omega (arith, sound .limited .long) in
       ⊎-elim
-        (λ (e : q ≡ r). subst (λ j. P j (getD (set (t .limits) r b) j no-range) (new j)) (sym e) (subst (P r (getD (set (t .limits) r b) r no-range)) (sym own) (subst (λ v. P r v b) (sym (getD-set-same (t .limits) r b no-range in-list)) here)))
-        (λ (ne : q ≢ r). subst (P q (getD (set (t .limits) r b) q no-range)) (sym (off q ne)) (subst (λ v. P q v (old q)) (sym (getD-set-other (t .limits) r q b no-range ne)) (other q ne)))
-        (cases-eq q r)
+      (λ (e : q ≡ r). subst (λ j. P j (getD (set (t .limits) r b) j no-range) (new j)) (sym e) (subst (P r (getD (set (t .limits) r b) r no-range)) (sym own) (subst (λ v. P r v b) (sym (getD-set-same (t .limits) r b no-range in-list)) here)))
+      (λ (ne : q ≢ r). subst (P q (getD (set (t .limits) r b) q no-range)) (sym (off q ne)) (subst (λ v. P q v (old q)) (sym (getD-set-other (t .limits) r q b no-range ne)) (other q ne)))
+      (cases-eq q r)
 
   reset-limited : Limited m new reset
   reset-limited =
@@ -100,21 +100,21 @@ module _ (m : Meaning) (old new : Ranges) (at : Drawn) (t : Table) (sound : Soun
         let bound : (σ : Ranges) → Fixed m new at σ → Within (σ r) a = λ σ c. subst (Within (σ r)) (sym at-r) (c .limits r lt) in
         let u = cut-table r a reset in
         cond-both (empty (meet (range-at reset r) a)) None (Some u) (λ o. Sound m new at (or-void reset o))
-          (λ e. voided-sound m new at reset reset-limited reset-shape (cut-none m (Fixed m new at) old at nowhere reset on r lt a bound (λ σ c. c .proper r lt) e))
-          (λ e.
-            let cut-on = cut-live m (Fixed m new at) old at nowhere reset on r lt a bound e in
-            rested-sound m new at u (limited-same m new reset u (cut-limits r a reset) reset-limited) (record {
-              wide = cut-on .wide;
-              shape = cut-on .shape;
-              due = cut-on .due;
-              kept = cut-on .kept;
-              proper = cut-on .proper;
-              within = λ q l. ⊎-elim
-                  (λ (i : q ≡ r). subst (λ j. Within (range-at u j) (new j)) (sym i) (subst (Within (range-at u r)) at-r (cut-within m (Fixed m new at) old at nowhere reset on r lt a)))
-                  (λ (ne : q ≢ r). subst (Within (range-at u q)) (sym (off q ne)) (cut-on .within q l))
-                  (cases-eq q r);
-              quiet = cut-on .quiet;
-            }))
+        (λ e. voided-sound m new at reset reset-limited reset-shape (cut-none m (Fixed m new at) old at nowhere reset on r lt a bound (λ σ c. c .proper r lt) e))
+        (λ e.
+        let cut-on = cut-live m (Fixed m new at) old at nowhere reset on r lt a bound e in
+        rested-sound m new at u (limited-same m new reset u (cut-limits r a reset) reset-limited) (record {
+          wide = cut-on .wide;
+          shape = cut-on .shape;
+          due = cut-on .due;
+          kept = cut-on .kept;
+          proper = cut-on .proper;
+          within = λ q l. ⊎-elim
+              (λ (i : q ≡ r). subst (λ j. Within (range-at u j) (new j)) (sym i) (subst (Within (range-at u r)) at-r (cut-within m (Fixed m new at) old at nowhere reset on r lt a)))
+              (λ (ne : q ≢ r). subst (Within (range-at u q)) (sym (off q ne)) (cut-on .within q l))
+              (cases-eq q r);
+          quiet = cut-on .quiet;
+        }))
 
     tight : (s : State) → t .state ≡ s → Sound m new at (reacted m s Tightened r reset)
     tight Settled e = tight-live (ap is-void e)

@@ -119,11 +119,11 @@ cut-self at t shape n l here r lt nm b du =
     let a = range-at t r in
     let new = meet a b in
     ⊎-elim
-      (λ d. let e = cond-true (smaller new a) (changed r new t) t d in
-            let on : has (changed r new t .due) n ≡ true = union-has (t .due) (naming-at t r) n ∙ or-right (has (t .due) n) (has (naming-at t r) n) (naming at t shape n l here r lt ∙ nm) in
-            absurd (both-ways (has (changed r new t .due) n) (subst (λ u. has (u .due) n ≡ false) e du) on))
-      (λ d. (cond-false (smaller new a) (changed r new t) t d, covers a b d))
-      (cases-bool (smaller new a))
+    (λ d. let e = cond-true (smaller new a) (changed r new t) t d in
+    let on : has (changed r new t .due) n ≡ true = union-has (t .due) (naming-at t r) n ∙ or-right (has (t .due) n) (has (naming-at t r) n) (naming at t shape n l here r lt ∙ nm) in
+    absurd (both-ways (has (changed r new t .due) n) (subst (λ u. has (u .due) n ≡ false) e du) on))
+    (λ d. (cond-false (smaller new a) (changed r new t) t d, covers a b d))
+    (cases-bool (smaller new a))
 
 pub cut-limits : (r : ℕ) (b : Range) (t : Table) → cut-table r b t .limits ≡ t .limits
 cut-limits r b t = cond-both (smaller (meet (range-at t r) b) (range-at t r)) (changed r (meet (range-at t r) b) t) t (λ u. u .limits ≡ t .limits) (λ _. refl) (λ _. refl)

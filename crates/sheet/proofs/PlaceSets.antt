@@ -166,7 +166,7 @@ no-bits (suc f) n le h =
 pub set-below : (s : Places) → ((k : ℕ) → has s k ≡ true → k < 64) → s .bits < 2 ^ 64
 set-below s h =
     let top : s .bits / 2 ^ 64 ≡ 0 = no-bits (s .bits / 2 ^ 64) (s .bits / 2 ^ 64) (omega arith) (λ i.
-        ap (λ q. q % 2) (shr-shr (s .bits) 64 i) ∙ bit-false s (64 + i) (⊎-elim (λ e. absurd (far i (h (64 + i) e))) (λ e. e) (cases-bool (has s (64 + i))))) in
+    ap (λ q. q % 2) (shr-shr (s .bits) 64 i) ∙ bit-false s (64 + i) (⊎-elim (λ e. absurd (far i (h (64 + i) e))) (λ e. e) (cases-bool (has s (64 + i))))) in
     omega arith
   where
     far : (i : ℕ) → 64 + i < 64 → ⊥
@@ -176,8 +176,8 @@ pub lowest-in : (s : Places) (n : ℕ) → ((k : ℕ) → has s k ≡ true → k
 lowest-in s n h e = ⊎-elim
     (λ d. let k = sym (cond-true (is-none s) None (Some (trailingZeros 64 (s .bits))) d) ∙ e in let z : _≡_ {A = ℕ} 0 1 = cc in absurd (omega arith))
     (λ d. let k = sym (cond-false (is-none s) None (Some (trailingZeros 64 (s .bits))) d) ∙ e in
-          let i : trailingZeros 64 (s .bits) ≡ n = cc in
-          let ne : s .bits ≡ 0 → ⊥ = eqb-false (s .bits) 0 d in
-          let t = trails 64 (s .bits) (omega arith) (set-below s h) in
-          subst (λ j. has s j ≡ true) i (has-true s (trailingZeros 64 (s .bits)) (t .here)))
+    let i : trailingZeros 64 (s .bits) ≡ n = cc in
+    let ne : s .bits ≡ 0 → ⊥ = eqb-false (s .bits) 0 d in
+    let t = trails 64 (s .bits) (omega arith) (set-below s h) in
+    subst (λ j. has s j ≡ true) i (has-true s (trailingZeros 64 (s .bits)) (t .here)))
     (cases-bool (is-none s))

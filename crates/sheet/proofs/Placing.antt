@@ -51,16 +51,16 @@ module _ (at now : Drawn) (n : ℕ) (l : Line) (t : Table) (shape : Shape at t) 
         named = named-below n (l .z) s2 lt (omega (arith, p .z)) (named-below n (l .y) s1 lt (omega (arith, p .y)) (named-below n (l .x) (t .naming) lt (omega (arith, p .x, i .registers)) (shape .named)));
         there = λ k j e. ⊎-elim
             (λ (f : k ≡ n).
-              let same : l ≡ j = let g : now n ≡ Some j = subst (λ q. now q ≡ Some j) f e in cc in
-              subst (λ q. Stands u q j) (sym f) (subst (Stands u n) same (record {
-                place = lt;
-                stands = with-here n (t .standing);
-                row = getD-set-same (t .rows) n (row-of l) no-row in-rows;
-                passes = passes;
-              })))
+            let same : l ≡ j = let g : now n ≡ Some j = subst (λ q. now q ≡ Some j) f e in cc in
+            subst (λ q. Stands u q j) (sym f) (subst (Stands u n) same (record {
+              place = lt;
+              stands = with-here n (t .standing);
+              row = getD-set-same (t .rows) n (row-of l) no-row in-rows;
+              passes = passes;
+            })))
             (λ (ne : k ≢ n).
-              let s = shape .there k j (sym (off k ne) ∙ e) in
-              record { place = s .place; stands = with-other n (t .standing) k ne ∙ s .stands; row = getD-set-other (t .rows) n k (row-of l) no-row ne ∙ s .row; passes = s .passes })
+            let s = shape .there k j (sym (off k ne) ∙ e) in
+            record { place = s .place; stands = with-other n (t .standing) k ne ∙ s .stands; row = getD-set-other (t .rows) n k (row-of l) no-row ne ∙ s .row; passes = s .passes })
             (cases-eq k n);
         free = λ k e. ⊎-elim
             (λ (f : k ≡ n). let g : now n ≡ None = subst (λ q. now q ≡ None) f e in let z : _≡_ {A = ℕ} 0 1 = cc in absurd (omega arith))
@@ -178,8 +178,8 @@ module _ (n : ℕ) (l : Line) (t : Table) (s : Stands t n l) where
           there = λ k j e. ⊎-elim
               (λ (f : k ≡ n). let g : now n ≡ Some j = subst (λ q. now q ≡ Some j) f e in let z : _≡_ {A = ℕ} 0 1 = cc in absurd (omega arith))
               (λ (ne : k ≢ n).
-                let w = shape .there k j (sym (off k ne) ∙ e) in
-                record { place = w .place; stands = without-other n (t .standing) k ne ∙ w .stands; row = w .row; passes = w .passes })
+              let w = shape .there k j (sym (off k ne) ∙ e) in
+              record { place = w .place; stands = without-other n (t .standing) k ne ∙ w .stands; row = w .row; passes = w .passes })
               (cases-eq k n);
           free = λ k e. ⊎-elim
               (λ (f : k ≡ n). subst (λ q. has (without n (t .standing)) q ≡ false) (sym f) (without-here n (t .standing)))

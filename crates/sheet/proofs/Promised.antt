@@ -162,24 +162,24 @@ module _ (m : Meaning) (laws : Laws m) where
     moved-lines = record {
       there = λ j f. let p = f .place in ⊎-elim
           (λ (e : p ≡ n).
-            let g : line-at h n ≡ Some j = subst (λ q. line-at h q ≡ Some j) e (f .here) in
-            let same : l ≡ j = cc in
-            subst (Has-line moved) same (record { place = k; here = again }))
+          let g : line-at h n ≡ Some j = subst (λ q. line-at h q ≡ Some j) e (f .here) in
+          let same : l ≡ j = cc in
+          subst (Has-line moved) same (record { place = k; here = again }))
           (λ (ne : p ≢ n).
-            let left : line-at (strike n ∷ h) p ≡ Some j = striking-off n (line-at h) p ne ∙ f .here in
-            let off : p ≡ k → ⊥ = λ e. taken j (subst (λ q. line-at (strike n ∷ h) q ≡ Some j) e left) in
-            record { place = p; here = entering-off k l (line-at (strike n ∷ h)) p off ∙ left })
+          let left : line-at (strike n ∷ h) p ≡ Some j = striking-off n (line-at h) p ne ∙ f .here in
+          let off : p ≡ k → ⊥ = λ e. taken j (subst (λ q. line-at (strike n ∷ h) q ≡ Some j) e left) in
+          record { place = p; here = entering-off k l (line-at (strike n ∷ h)) p off ∙ left })
           (cases-eq p n);
       back = λ j f. let p = f .place in ⊎-elim
           (λ (e : p ≡ k).
-            let g : line-at moved k ≡ Some j = subst (λ q. line-at moved q ≡ Some j) e (f .here) in
-            let a = again in
-            let same : l ≡ j = cc in
-            subst (Has-line h) same (record { place = n; here = here }))
+          let g : line-at moved k ≡ Some j = subst (λ q. line-at moved q ≡ Some j) e (f .here) in
+          let a = again in
+          let same : l ≡ j = cc in
+          subst (Has-line h) same (record { place = n; here = here }))
           (λ (ne : p ≢ k).
-            let left : line-at (strike n ∷ h) p ≡ Some j = sym (entering-off k l (line-at (strike n ∷ h)) p ne) ∙ f .here in
-            let off : p ≡ n → ⊥ = λ e. gone j (subst (λ q. line-at (strike n ∷ h) q ≡ Some j) e left) in
-            record { place = p; here = sym (striking-off n (line-at h) p off) ∙ left })
+          let left : line-at (strike n ∷ h) p ≡ Some j = sym (entering-off k l (line-at (strike n ∷ h)) p ne) ∙ f .here in
+          let off : p ≡ n → ⊥ = λ e. gone j (subst (λ q. line-at (strike n ∷ h) q ≡ Some j) e left) in
+          record { place = p; here = sym (striking-off n (line-at h) p off) ∙ left })
           (cases-eq p k);
     }
       where

@@ -84,18 +84,18 @@ module _ (m : Meaning) (laws : Laws m) where
   read-right r low high lt (Some l) (Some h) el eh b e =
       let made : Range = record { low = l; high = h } in
       ⊎-elim
-        (λ d. let f = sym (cond-true (ltZ h l) (Err 3) (Ok made) d) ∙ e in let z : _≡_ {A = ℕ} 0 1 = cc in absurd (omega arith))
-        (λ d. let f = sym (cond-false (ltZ h l) (Err 3) (Ok made) d) ∙ e in
-              let same : made ≡ b = cc in
-              let p : l ≤ℤ h = grind (arith, ints) in
-              subst (Right r) same (record { register = lt; proper = p; readings = (laws .reads low l el .0, laws .reads high h eh .1) }))
-        (cases-bool (ltZ h l))
+      (λ d. let f = sym (cond-true (ltZ h l) (Err 3) (Ok made) d) ∙ e in let z : _≡_ {A = ℕ} 0 1 = cc in absurd (omega arith))
+      (λ d. let f = sym (cond-false (ltZ h l) (Err 3) (Ok made) d) ∙ e in
+      let same : made ≡ b = cc in
+      let p : l ≤ℤ h = grind (arith, ints) in
+      subst (Right r) same (record { register = lt; proper = p; readings = (laws .reads low l el .0, laws .reads high h eh .1) }))
+      (cases-bool (ltZ h l))
 
   asked-right : (r low high : ℕ) (b : Range) → limit-asked m r low high ≡ Ok b → Right r b
   asked-right r low high b e = ⊎-elim
       (λ d. let f = sym (cond-true (ltb 31 r) (Err 1) (limits-read (m .reads low) (m .reads high)) d) ∙ e in let z : _≡_ {A = ℕ} 0 1 = cc in absurd (omega arith))
       (λ d. let le : r ≤ 31 = ltb-false 31 r d in
-            read-right r low high (omega arith) (m .reads low) (m .reads high) refl refl b (sym (cond-false (ltb 31 r) (Err 1) (limits-read (m .reads low) (m .reads high)) d) ∙ e))
+      read-right r low high (omega arith) (m .reads low) (m .reads high) refl refl b (sym (cond-false (ltb 31 r) (Err 1) (limits-read (m .reads low) (m .reads high)) d) ∙ e))
       (cases-bool (ltb 31 r))
 
   got-none : (b : Bool) (e : ℕ) (old : Range) → limits-got b (Err e) old ≡ old
@@ -107,8 +107,8 @@ module _ (m : Meaning) (laws : Laws m) where
   limit-sound old at t sound r (Ok b) right =
       let h = right b refl in
       limited-sound m old (λ q. limits-got (eqb r q) (Ok b) (old q)) at t sound r b (h .register) (h .proper) (h .readings)
-        (ap (λ c. limits-got c (Ok b) (old r)) (eq-eqb r r refl))
-        (λ q ne. ap (λ c. limits-got c (Ok b) (old q)) (ne-eqb r q (λ e. ne (sym e))))
+      (ap (λ c. limits-got c (Ok b) (old r)) (eq-eqb r r refl))
+      (λ q ne. ap (λ c. limits-got c (Ok b) (old q)) (ne-eqb r q (λ e. ne (sym e))))
 
 -- ---- lines as a history says them
 abbrev wanted : ℕ → Line → Drawn → ℕ → Bool
@@ -146,20 +146,20 @@ module _ (m : Meaning) (limits-to : Ranges) (at : Drawn) (t : Table) (sound : So
       let Good : Table → Type 0 = Sound m limits-to (entering n l at) in
       let same : wanted n l at n ≡ false → Good t = λ h. subst (λ f. Sound m limits-to f t) (declined n l at h) sound in
       cond-both (passes-check l) (line-table m n l t) t Good
-        (λ p. cond-both (ltb 63 n || has (t .standing) n) t (entered m n l t) Good
-          (λ h. same (⊎-elim
-            (λ (far : ltb 63 n ≡ true). let f = ltb-true 63 n far in and-left (eqb n n && ltb n 64) _ (and-right (eqb n n) (ltb n 64) (le-ltb n 64 (omega arith))))
-            (λ (taken : has (t .standing) n ≡ true).
-              let j = line-of at t (sound .shape) n taken in
-              and-right (eqb n n && ltb n 64) _ (and-right (passes-check l) (not (isSome (at n))) (ap (λ o. not (isSome o)) (j .1))))
-            (or-cases (ltb 63 n) (has (t .standing) n) h)))
-          (λ h.
-            let parts = or-parts (ltb 63 n) (has (t .standing) n) h in
-            let le : n ≤ 63 = ltb-false 63 n (parts .0) in
-            let lt : n < 64 = omega arith in
-            let empty : at n ≡ None = none-at n (parts .1) in
-            entered-sound m limits-to at (entering n l at) t sound n l lt p empty (entering-own n l at lt p empty) (entering-off n l at)))
-        (λ p. same (and-right (eqb n n && ltb n 64) _ (and-left (passes-check l) (not (isSome (at n))) p)))
+      (λ p. cond-both (ltb 63 n || has (t .standing) n) t (entered m n l t) Good
+      (λ h. same (⊎-elim
+      (λ (far : ltb 63 n ≡ true). let f = ltb-true 63 n far in and-left (eqb n n && ltb n 64) _ (and-right (eqb n n) (ltb n 64) (le-ltb n 64 (omega arith))))
+      (λ (taken : has (t .standing) n ≡ true).
+      let j = line-of at t (sound .shape) n taken in
+      and-right (eqb n n && ltb n 64) _ (and-right (passes-check l) (not (isSome (at n))) (ap (λ o. not (isSome o)) (j .1))))
+      (or-cases (ltb 63 n) (has (t .standing) n) h)))
+      (λ h.
+      let parts = or-parts (ltb 63 n) (has (t .standing) n) h in
+      let le : n ≤ 63 = ltb-false 63 n (parts .0) in
+      let lt : n < 64 = omega arith in
+      let empty : at n ≡ None = none-at n (parts .1) in
+      entered-sound m limits-to at (entering n l at) t sound n l lt p empty (entering-own n l at lt p empty) (entering-off n l at)))
+      (λ p. same (and-right (eqb n n && ltb n 64) _ (and-left (passes-check l) (not (isSome (at n))) p)))
     where
       none-at : (n : ℕ) → has (t .standing) n ≡ false → at n ≡ None
       none-at n h = by (at n) refl
@@ -171,13 +171,13 @@ module _ (m : Meaning) (limits-to : Ranges) (at : Drawn) (t : Table) (sound : So
   strike-sound : (n : ℕ) → Sound m limits-to (striking n at) (strike-table m n t)
   strike-sound n = cond-both (no-line n t) t (struck m n t) (Sound m limits-to (striking n at))
       (λ h. subst (λ f. Sound m limits-to f t) (fun-ext (λ k. ⊎-elim
-        (λ (e : k ≡ n). subst (λ q. at q ≡ striking n at q) (sym e) (none-at h ∙ sym (striking-own n at)))
-        (λ (ne : k ≢ n). sym (striking-off n at k ne))
-        (cases-eq k n))) sound)
+      (λ (e : k ≡ n). subst (λ q. at q ≡ striking n at q) (sym e) (none-at h ∙ sym (striking-own n at)))
+      (λ (ne : k ≢ n). sym (striking-off n at k ne))
+      (cases-eq k n))) sound)
       (λ h.
-        let parts = or-parts (ltb 63 n) (not (has (t .standing) n)) h in
-        let j = line-of at t (sound .shape) n (not-false (has (t .standing) n) (parts .1)) in
-        struck-sound m limits-to at (striking n at) t sound n (j .0) (j .1) (striking-own n at) (striking-off n at))
+      let parts = or-parts (ltb 63 n) (not (has (t .standing) n)) h in
+      let j = line-of at t (sound .shape) n (not-false (has (t .standing) n) (parts .1)) in
+      struck-sound m limits-to at (striking n at) t sound n (j .0) (j .1) (striking-own n at) (striking-off n at))
     where
       none-at : no-line n t ≡ true → at n ≡ None
       none-at h = by (at n) refl
@@ -188,9 +188,9 @@ module _ (m : Meaning) (limits-to : Ranges) (at : Drawn) (t : Table) (sound : So
               let s = sound .shape .there n j e in
               let near : ltb 63 n ≡ false = le-ltb 63 n (omega (arith, s .place)) in
               ⊎-elim
-                (λ d. absurd (both-ways (ltb 63 n) near d))
-                (λ d. absurd (both-ways (has (t .standing) n) (not-true (has (t .standing) n) d) (s .stands)))
-                (or-cases (ltb 63 n) (not (has (t .standing) n)) h)
+              (λ d. absurd (both-ways (ltb 63 n) near d))
+              (λ d. absurd (both-ways (has (t .standing) n) (not-true (has (t .standing) n) d) (s .stands)))
+              (or-cases (ltb 63 n) (not (has (t .standing) n)) h)
 
 -- ---- every history
 module _ (m : Meaning) (laws : Laws m) where

@@ -66,11 +66,14 @@ module _ (m : Meaning) (limits-to : Ranges) (at : Drawn) (n : ℕ) (l : Line) (h
   cut-left : (W : Type 0) (r : ℕ) (b : Range) → r < 32 → names r (row-of l) ≡ true → ((σ : Ranges) → Set σ → Within (σ r) b) → (u : Table) → On u → Idle W u → u .limits ≡ t .limits → Left (W × Within (range-at t r) b) (cut r b u)
   cut-left W r b lt nm bound u on idle lim = cond-both (empty (meet (range-at u r) b)) None (Some (cut-table r b u)) (Left (W × Within (range-at t r) b))
       (λ e. cut-none m Set limits-to at n u on r lt b bound (λ σ c. c .proper r lt) e)
-      (λ e. (cut-live m Set limits-to at n u on r lt b bound e, λ d.
-          let self = cut-self at u (on .shape) n l here r lt nm b d in
-          let before = idle (subst (λ v. has (v .due) n ≡ false) (self .0) d) in
-          (self .0 ∙ before .0, (before .1, subst (λ v. Within (range-at v r) b) (before .0) (self .1))),
-          cut-limits r b u ∙ lim))
+      (λ e. (
+        cut-live m Set limits-to at n u on r lt b bound e,
+        λ d.
+            let self = cut-self at u (on .shape) n l here r lt nm b d in
+            let before = idle (subst (λ v. has (v .due) n ≡ false) (self .0) d) in
+            (self .0 ∙ before .0, (before .1, subst (λ v. Within (range-at v r) b) (before .0) (self .1))),
+        cut-limits r b u ∙ lim,
+      ))
 
   then-left : (W V : Type 0) (o : Option Table) (f : Table → Option Table) → Left W o → ((u : Table) → On u → Idle W u → u .limits ≡ t .limits → Left V (f u)) → Left V (then o f)
   then-left W V None f h k = h
@@ -93,10 +96,10 @@ module _ (m : Meaning) (limits-to : Ranges) (at : Drawn) (n : ℕ) (l : Line) (h
   absorbed-left p on None bound = bound
   absorbed-left p on (Some s) bound =
       then-left (Wy s) (Wz s) (then (cut (l .x) (s .x) t) (cut (l .y) (s .y))) (cut (l .z) (s .z))
-        (then-left (Wx s) (Wy s) (cut (l .x) (s .x) t) (cut (l .y) (s .y))
-          (cut-left (Unit {0}) (l .x) (s .x) (p .x) (names-x l) (λ σ c. bound σ c .0) t on (λ _. (refl, tt)) refl)
-          (cut-left (Wx s) (l .y) (s .y) (p .y) (names-y l) (λ σ c. bound σ c .1)))
-        (cut-left (Wy s) (l .z) (s .z) (p .z) (names-z l) (λ σ c. bound σ c .2))
+      (then-left (Wx s) (Wy s) (cut (l .x) (s .x) t) (cut (l .y) (s .y))
+      (cut-left (Unit {0}) (l .x) (s .x) (p .x) (names-x l) (λ σ c. bound σ c .0) t on (λ _. (refl, tt)) refl)
+      (cut-left (Wx s) (l .y) (s .y) (p .y) (names-y l) (λ σ c. bound σ c .1)))
+      (cut-left (Wy s) (l .z) (s .z) (p .z) (names-z l) (λ σ c. bound σ c .2))
 
   -- a line that stays idle is unmoved
   idle-stays : (o : Option Triple) (u : Table) → absorbed l o t ≡ Some u → All o → WithinO (Some (given l t)) o
@@ -130,10 +133,10 @@ module _ (m : Meaning) (limits-to : Ranges) (at : Drawn) (n : ℕ) (l : Line) (h
               within = v .within;
               quiet = λ k j _ f d. ⊎-elim
                   (λ (i : k ≡ n).
-                    let same : l ≡ j = cc in
-                    let idle = h .1 (subst (λ q. has (u .due) q ≡ false) i d) in
-                    let stays : Stays m l (given l t) = idle-stays out u e (idle .1) in
-                    subst (Unmoved m (range-at u)) same (subst (λ w. Unmoved m (range-at w) l) (sym (idle .0)) stays))
+                  let same : l ≡ j = cc in
+                  let idle = h .1 (subst (λ q. has (u .due) q ≡ false) i d) in
+                  let stays : Stays m l (given l t) = idle-stays out u e (idle .1) in
+                  subst (Unmoved m (range-at u)) same (subst (λ w. Unmoved m (range-at w) l) (sym (idle .0)) stays))
                   (λ ne. v .quiet k j ne f d) (cases-eq k n);
             })
 
@@ -175,7 +178,7 @@ module _ (m : Meaning) (laws : Laws m) (limits-to : Ranges) (at : Drawn) where
         let s = on .shape .there n l (f .1) in
         let again : checked (drawn-of (row-at t n)) ≡ Ok l = ap (λ w. checked (drawn-of w)) (s .row) ∙ remade l (s .passes) in
         subst (λ c. Good (step-line m c waiting)) (sym again)
-          (narrowed-sound m limits-to at n l (f .1) waiting laws (passing l (s .passes)) waiting-live (limited-same m limits-to t waiting refl (sound .limited)))
+        (narrowed-sound m limits-to at n l (f .1) waiting laws (passing l (s .passes)) waiting-live (limited-same m limits-to t waiting refl (sound .limited)))
 
   step-at-sound : (t : Table) → Good t → is-void (t .state) ≡ false → (o : Option ℕ) → lowest (t .due) ≡ o → Good (step-at m o t)
   step-at-sound t sound live None e = sound
