@@ -1,4 +1,4 @@
--- A line that passes the check is made again from its row.
+-- A line that passes the check is made again from its row; and a checked line passes the check.
 use Prim.Native.Nat.{ℕ, _<_}
 use mathlib.Core.Bool.{true, false, cond, _&&_, _||_}
 use mathlib.Core.Path.{_≡_, refl, ap, _∙_}
@@ -7,11 +7,15 @@ use lib.Dec.{eqb, ltb}
 use Rattle.std.specs.declared.option.Option.the-variants.{Some}
 use Rattle.std.specs.declared.result.Result.{Result}
 use Rattle.std.specs.declared.result.Result.the-variants.{Ok, Err}
-use Rattle.std.proofs.shelf.Tests.{and-parts, or-from, cond-false, ltb-true, le-ltb, ne-eqb}
+use Rattle.std.proofs.shelf.Tests.{and-parts, and-from, or-from, cond-true, cond-false, ltb-true, lt-ltb, le-ltb, ne-eqb}
 use Rattle.catalogue.specs.declared.types.Kind.{Kind}
 use Rattle.catalogue.specs.declared.types.Kind.the-variants.{Sum, Difference, Peak}
+use Rattle.sheet.specs.declared.lines.CheckedLine.{CheckedLine}
 use Rattle.sheet.specs.declared.lines.Line.{Line}
-use Rattle.sheet.specs.Histories.{passes-check}
+use Rattle.sheet.specs.declared.table.Table.{Table}
+use Rattle.catalogue.specs.Meanings.{Meaning}
+use Rattle.sheet.specs.Calls.{line-table, enter-table}
+use Rattle.sheet.specs.Histories.{enter, passes-check, called}
 use Rattle.sheet.specs.Lines.{kind-number, kind-of, checked-kind, checked, row-of, drawn-of}
 
 pub record Passes (l : Line) : Type 0 where
@@ -49,3 +53,15 @@ remade l h =
     ap (λ k. checked-kind k d) (kind-again (l .kind))
     ∙ cond-false (eqb s 0 || ltb 15 s) (Err 5) here bad-modes
     ∙ cond-false (ltb 31 (l .x) || (ltb 31 (l .y) || ltb 31 (l .z))) (Err 1) (Ok l) bad
+
+-- a checked line passes the check, so that an enter of one is the call of a history
+pub checked-passes : (c : CheckedLine) → passes-check (c .line) ≡ true
+checked-passes c =
+    let l = c .line in
+    let s = l .modes .bits in
+    and-from (ltb 0 s && ltb s 16) (ltb (l .x) 32 && (ltb (l .y) 32 && ltb (l .z) 32))
+    (and-from (ltb 0 s) (ltb s 16) (lt-ltb 0 s (c .«some_mode»)) (lt-ltb s 16 (c .«no_other_mode»)))
+    (and-from (ltb (l .x) 32) (ltb (l .y) 32 && ltb (l .z) 32) (lt-ltb (l .x) 32 (c .«x_exists»)) (and-from (ltb (l .y) 32) (ltb (l .z) 32) (lt-ltb (l .y) 32 (c .«y_exists»)) (lt-ltb (l .z) 32 (c .«z_exists»))))
+
+pub enter-called : (m : Meaning) (n : ℕ) (c : CheckedLine) (t : Table) → called m (enter n (c .line)) t ≡ enter-table m n c t
+enter-called m n c t = cond-true (passes-check (c .line)) (line-table m n (c .line) t) t (checked-passes c)
