@@ -27,7 +27,7 @@ use Rattle.sheet.specs.declared.table.Table.{Table}
 use Rattle.sheet.specs.Lines.{row-of, checked, drawn-of}
 use Rattle.sheet.specs.Places.{has, none, with-place, without, lowest}
 use Rattle.sheet.specs.Index.{names, Indexed}
-use Rattle.sheet.specs.Rules.{no-row, row-at, naming-at, empty, smaller, changed, cut-table, cut, or-void, then, absorbed, narrowed-by, step-line, step-at, step, reacted, named, placed, settled, new-table, range-at, limits-at, cut-to-limits, at-rest, after-steps, given, with-due, with-limits, limited, limit-event, entered}
+use Rattle.sheet.specs.Rules.{no-row, row-at, naming-at, empty, smaller, changed, cut-table, cut, or-void, then, absorbed, narrowed-by, step-line, step-at, step, reacted, named, placed, settled, new-table, table-of, range-at, limits-at, cut-to-limits, at-rest, after-steps, given, with-due, with-limits, limited, limit-event, entered}
 use Rattle.catalogue.specs.Ranges.{meet}
 use Rattle.sheet.proofs.PlaceSets.{with-here, with-other, zero-bit, has-false}
 
@@ -123,13 +123,10 @@ new-indexed m = record {
     nowhere : (n : ℕ) → has none n ≡ false
     nowhere n = has-false none n (zero-bit n)
 
-abbrev made-of : Range → Places → Table
-made-of all p = record { limits = replicate 32 all; ranges = replicate 32 all; rows = replicate 64 no-row; standing = p; naming = replicate 32 p; due = p; state = Settled }
-
 -- the table that the code makes
-pub new-made : (m : Meaning) (all : Range) (p : Places) → all ≡ all-readings m → p ≡ none → (made-of all p ≡ new-table m) × Indexed (made-of all p)
-new-made m all p e f =
-    let same : made-of all p ≡ new-table m = ap (λ a. made-of a p) e ∙ ap (made-of (all-readings m)) f in
+pub new-made : (m : Meaning) (t : Table) (all : Range) → t ≡ table-of all → all ≡ all-readings m → (t ≡ new-table m) × Indexed t
+new-made m t all e f =
+    let same : t ≡ new-table m = e ∙ ap table-of f in
     (same, subst Indexed (sym same) (new-indexed m))
 
 -- the line at n names r
@@ -228,5 +225,5 @@ module _ (m : Meaning) where
   pub entered-indexed : (n : ℕ) (l : Line) (t u : Table) → u ≡ entered m n l t → n < 64 → (l .x < 32) × (l .y < 32) × (l .z < 32) → has (t .standing) n ≡ false → Indexed t → Indexed u
   entered-indexed n l t u e lt reg free i = subst Indexed (sym e) (index-same _ (placed n l t) (reacted-lines m (t .state) Entered n (placed n l t)) (placed-indexed n l t lt reg free i))
 
-  pub settled-indexed : (b : ℕ) (t u : Table) (n : ℕ) → settled m b t ≡ record { table = u; steps = n } → Indexed t → Indexed u
-  settled-indexed b t u n e i = subst Indexed (ap (λ a. a .table) e) (index-same _ t (settled-lines m b t) i)
+  pub settled-indexed : (b : ℕ) (t u : Table) → u ≡ settled m b t .table → Indexed t → Indexed u
+  settled-indexed b t u e i = subst Indexed (sym e) (index-same _ t (settled-lines m b t) i)

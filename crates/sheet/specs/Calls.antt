@@ -21,7 +21,7 @@ use Rattle.sheet.specs.declared.table.State.{State}
 use Rattle.sheet.specs.declared.table.State.the-variants.{Settled, Open, Void}
 use Rattle.sheet.specs.declared.table.Table.{Table}
 use Rattle.sheet.specs.Places.{has}
-use Rattle.sheet.specs.Rules.{limited, entered, settled, range-at}
+use Rattle.sheet.specs.Rules.{limited, entered, Settling, settled, range-at}
 
 -- ---- limit: the register (1), the low pattern, then the high (2), their order (3)
 
@@ -70,11 +70,15 @@ outcome-of Settled = outcome.Settled
 outcome-of Open = outcome.Stopped
 outcome-of Void = outcome.Void
 
+-- how steps ended, and how many were made
+abbrev pub run-answer : Settling → Outcome × ℕ
+run-answer a = (outcome-of (a .table .state), a .steps)
+
 abbrev pub bad-budget : ℕ → Bool
 bad-budget b = eqb b 0 || ltb 65535 b
 
 abbrev pub settle-asked : Meaning → ℕ → Table → Result (Outcome × ℕ) ℕ
-settle-asked m b t = cond (bad-budget b) (Err 8) (Ok (outcome-of (settled m b t .table .state), settled m b t .steps))
+settle-asked m b t = cond (bad-budget b) (Err 8) (Ok (run-answer (settled m b t)))
 
 abbrev pub settle-table : Meaning → ℕ → Table → Table
 settle-table m b t = cond (bad-budget b) t (settled m b t .table)

@@ -1,9 +1,11 @@
+ghost use Prim.Native.Nat.{_<_};
 ghost use mathlib.Core.Path.{_≡_};
 ghost use Rattle.std.specs.Results.{Cases};
 ghost use Rattle.catalogue.specs.Refusals.{numbered};
-ghost use Rattle.sheet.specs.Calls.{done, enter-answer, enter-asked, enter-table, in-patterns, is-settled, is-void, limit-asked, limit-table, limits-read, look-answer, outcome-of, settle-asked, settle-table, shown};
+ghost use Rattle.sheet.specs.Calls.{bad-budget, done, enter-answer, enter-asked, enter-table, in-patterns, is-settled, is-void, limit-asked, limit-table, limits-read, look-answer, outcome-of, run-answer, settle-asked, settle-table, shown};
 ghost use Rattle.sheet.specs.Index.{Indexed};
-ghost use Rattle.sheet.specs.Rules.{new-table};
+ghost use Rattle.sheet.specs.Places.{has};
+ghost use Rattle.sheet.specs.Rules.{new-table, settled, table-of};
 use crate::lines::CheckedLine;
 use crate::places::Places;
 use crate::sheet::Look;
@@ -27,16 +29,19 @@ fn outcome(state: State) -> Outcome
     }
 }
 
-impl<C: Catalogue> Sheet<C> {
-    /// A sheet with no lines, and limits from the least to the greatest reading.
-    pub fn new(catalogue: C) -> Self
-        ensures table { λ r. ⌜ r .table ≡ new-table (meaning catalogue) ⌝ }
-        ensures catalogue { λ r. ⌜ r .catalogue ≡ catalogue ⌝ }
-        ensures index { λ r. ⌜ Indexed (r .table) ⌝ }
+/// Whether a budget is none that a settle takes.
+fn is_bad_budget(budget: u32) -> bool
+    ensures { λ r. ⌜ r ≡ bad-budget budget ⌝ }
+{
+    budget == 0 || budget > 65535
+}
+
+impl Table {
+    /// A table with no lines, and one range for all limits.
+    fn new(all: Range) -> Table
+        ensures { λ r. ⌜ r ≡ table-of all ⌝ }
     {
-        let all = catalogue.ends();
-        let none = Places::none();
-        let table = Table {
+        Table {
             limits: [all; 32],
             ranges: [all; 32],
             rows: [Row {
@@ -46,11 +51,30 @@ impl<C: Catalogue> Sheet<C> {
                 y: 0,
                 z: 0,
             }; 64],
-            standing: none,
-            naming: [none; 32],
-            due: none,
+            standing: Places { bits: 0 },
+            naming: [Places { bits: 0 }; 32],
+            due: Places { bits: 0 },
             state: State::Settled,
-        };
+        }
+    }
+
+    /// Whether a line stands at a place, among those that there are.
+    fn is_taken(&self, place: u32) -> bool
+        requires { ⌜ place < 64 ⌝ }
+        ensures { λ r. ⌜ r ≡ has (now (self .entry) .standing) place ⌝ }
+    {
+        self.standing.has(place as u8)
+    }
+}
+
+impl<C: Catalogue> Sheet<C> {
+    /// A sheet with no lines, and limits from the least to the greatest reading.
+    pub fn new(catalogue: C) -> Self
+        ensures table { λ r. ⌜ r .table ≡ new-table (meaning catalogue) ⌝ }
+        ensures catalogue { λ r. ⌜ r .catalogue ≡ catalogue ⌝ }
+        ensures index { λ r. ⌜ Indexed (r .table) ⌝ }
+    {
+        let table = Table::new(catalogue.ends());
         Sheet { catalogue, table }
     }
 
@@ -91,11 +115,21 @@ impl<C: Catalogue> Sheet<C> {
         if place > 63 {
             return Err((Refusal::NoLineThere, line));
         }
-        if self.table.standing.has(place as u8) {
+        if self.table.is_taken(place) {
             return Err((Refusal::PlaceTaken, line));
         }
         self.table.enter(&self.catalogue, place as u8, line);
         Ok(())
+    }
+
+    /// Steps until rest or until the budget is spent, whatever the budget.
+    fn run(&mut self, budget: u32) -> (Outcome, u32)
+        ensures answer { λ r. ⌜ r ≡ run-answer (settled (meaning (now (self .entry) .catalogue)) budget (now (self .entry) .table)) ⌝ }
+        ensures table { λ _. ⌜ now (self .exit) .table ≡ settled (meaning (now (self .entry) .catalogue)) budget (now (self .entry) .table) .table ⌝ }
+        ensures catalogue { λ _. ⌜ now (self .exit) .catalogue ≡ now (self .entry) .catalogue ⌝ }
+    {
+        let steps = self.table.settle(&self.catalogue, budget);
+        (outcome(self.table.state), steps)
     }
 
     /// Steps until rest or until the budget is spent: how it ended, and how many steps were made.
@@ -105,11 +139,10 @@ impl<C: Catalogue> Sheet<C> {
         ensures catalogue { λ _. ⌜ now (self .exit) .catalogue ≡ now (self .entry) .catalogue ⌝ }
         ensures index { λ _. ⌜ (Indexed (now (self .entry) .table) → Indexed (now (self .exit) .table)) ⌝ }
     {
-        if budget == 0 || budget > 65535 {
+        if is_bad_budget(budget) {
             return Err(Refusal::BudgetOutOfRange);
         }
-        let steps = self.table.settle(&self.catalogue, budget);
-        Ok((outcome(self.table.state), steps))
+        Ok(self.run(budget))
     }
 
     /// A look at the sheet, which shows nothing while it is void.

@@ -11,7 +11,7 @@ returns g c =
     let t = c .args .self .now .table in
     let n = c .args .place in
     let l = c .args .line in
-    let free : has (t .standing) n ≡ false = sym (c .if-has .ensures tt) in
+    let free : has (t .standing) n ≡ false = sym (c .if-is-taken .ensures tt) in
     let lt : n < 64 = search needs in
     record {
       answer = search needs;

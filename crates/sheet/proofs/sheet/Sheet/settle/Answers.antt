@@ -7,5 +7,5 @@ returns g c = record {
   answer = search needs;
   table = search needs;
   catalogue = search needs;
-  index = settled-indexed (g .C·Catalogue .meaning (c .args .self .now .catalogue)) (c .args .budget) (c .args .self .now .table) _ _ (c .settle-steps .ensures);
+  index = settled-indexed (g .C·Catalogue .meaning (c .args .self .now .catalogue)) (c .args .budget) (c .args .self .now .table) _ (c .run .ensures .table);
 }
