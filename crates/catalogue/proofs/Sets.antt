@@ -1,13 +1,12 @@
 -- The least and the greatest among the modes of a set
-use Prim.Native.Nat.{ℕ}
-use mathlib.Core.Bool.{Bool, true, false, cond}
-use mathlib.Core.Path.{_≡_, refl, sym, ap, subst, _∙_}
-use mathlib.Core.Logic.{_⊎_, inl, inr, ⊎-elim}
+use mathlib.Core.Bool.{Bool, true, false}
+use mathlib.Core.Path.{_≡_, refl, ap, _∙_}
+use mathlib.Core.Logic.{_⊎_, ⊎-elim}
 use native.Mathlib.Omega.{arith}
 use lib.IntN.{ℤ}
 use lib.Signed.{_≤ℤ_, _<ℤ_, ≤ℤ-refl}
-use Rattle.std.proofs.shelf.Signed.{ints, clamps, by-ltZ}
-use Rattle.std.proofs.shelf.Tests.{cases-bool, eqb-false, false≢true, cond-true}
+use Rattle.std.proofs.shelf.Signed.{ints, clamps}
+use Rattle.std.proofs.shelf.Tests.{false≢true, cond-true}
 use Rattle.catalogue.specs.declared.types.Mode.{Mode}
 use Rattle.catalogue.specs.declared.types.Mode.the-variants.{Nearest, Up, Down, TowardZero}
 use Rattle.catalogue.specs.declared.types.Modes.{Modes}

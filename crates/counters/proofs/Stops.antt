@@ -1,6 +1,6 @@
 -- Operations that stop at an end: results move one way, modes have no effect, and patterns are read back.
 use Prim.Native.Nat.{ℕ, _<_, _≤_, _^_, min}
-use mathlib.Core.Bool.{Bool, true, false, cond}
+use mathlib.Core.Bool.{Bool, true, false}
 use mathlib.Core.Path.{_≡_, refl, sym, ap, subst, _∙_}
 use native.Mathlib.Omega.{arith}
 use lib.Dec.{leb}
@@ -12,13 +12,12 @@ use Rattle.std.proofs.shelf.Signed.{ints, clamps}
 use Rattle.std.proofs.shelf.Tests.{cond-both, cond-true, le-leb, leb-true}
 use Rattle.catalogue.specs.declared.types.Kind.{Kind}
 use Rattle.catalogue.specs.declared.types.Kind.the-variants.{Sum, Difference, Peak}
-use Rattle.catalogue.specs.declared.types.Mode.{Mode}
-use Rattle.catalogue.specs.declared.types.Mode.the-variants.{Nearest, Up, Down, TowardZero}
+use Rattle.catalogue.specs.declared.types.Mode.the-variants.{Up, Down, TowardZero}
 use Rattle.catalogue.specs.declared.types.Modes.{Modes}
 use Rattle.catalogue.specs.declared.types.Span.{Span}
 use Rattle.catalogue.specs.Modes.{has-mode, lesser-if, greater-if, least-of, greatest-of}
-use Rattle.catalogue.specs.Operations.{Arith, ArithLaws, In-order, falls-in-y, nearest-reading, span-of}
-use Rattle.catalogue.specs.Meanings.{Laws, Patterns}
+use Rattle.catalogue.specs.Operations.{ArithLaws, In-order, falls-in-y, nearest-reading, span-of}
+use Rattle.catalogue.specs.Meanings.{Laws}
 use Rattle.catalogue.proofs.Ranked.{ranked-laws}
 use Rattle.counters.specs.Stopping.{stopped, stopping}
 use Rattle.counters.specs.Counters.{read-to, write-to, counting}

@@ -2,7 +2,6 @@
 use Prim.Native.Nat.{ℕ}
 use mathlib.Core.Bool.{Bool, cond}
 use mathlib.Core.List.{List, [], _∷_, _++_}
-use lib.Chars.{codes}
 use lib.Dec.{eqb, ltb}
 use lib.ListN.{length, drop}
 use Rattle.std.specs.declared.option.Option.{Option}
@@ -13,7 +12,6 @@ use Rattle.catalogue.specs.declared.types.Kind.{Kind}
 use Rattle.catalogue.specs.Meanings.{Meaning}
 use Rattle.counters.specs.Counters.{counter}
 use Rattle.sheet.specs.declared.lines.DrawnLine.{DrawnLine}
-use Rattle.sheet.specs.declared.table.Outcome.{Outcome}
 use Rattle.sheet.specs.declared.table.Table.{Table}
 use Rattle.sheet.specs.Calls.{done, drawn-asked, drawn-table, limit-asked, limit-table, settle-asked, settle-table, is-void, is-settled, shown, in-patterns}
 use Rattle.sheet.specs.Lines.{checked, kind-number}
@@ -38,7 +36,7 @@ ok-or (Err e) = refused e
 abbrev pub drawn : Kind → ℕ → ℕ → ℕ → ℕ → DrawnLine
 drawn k s x y z = record { kind = kind-number k; modes = s; x = x; y = y; z = z }
 
-abbrev pub stepped-or : Result (Outcome × ℕ) ℕ → Reply
+abbrev pub stepped-or : Result (ℕ × ℕ) ℕ → Reply
 stepped-or (Ok p) = stepped (p .0) (p .1)
 stepped-or (Err e) = refused e
 

@@ -9,7 +9,7 @@ ghost use Rattle.answers.specs.Texts.{line-of, refused, reply-of};
 ghost use Rattle.catalogue.specs.Refusals.{numbered};
 ghost use Rattle.commands.specs.Commands.{command-of};
 ghost use Rattle.session.specs.Sessions.{answers, board-of, by-board, looked, ok-or, replied, stepped-or, table-after, written-for};
-ghost use Rattle.sheet.specs.Calls.{done, drawn-asked, drawn-table, limit-asked, limit-table, settle-asked, settle-table};
+ghost use Rattle.sheet.specs.Calls.{drawn-asked, drawn-table, settle-asked, settle-table};
 ghost use Rattle.sheet.specs.Lines.{checked};
 ghost use Rattle.sheet.specs.Rules.{new-table};
 ghost use Rattle.words.specs.Lines.{lines};
@@ -29,7 +29,7 @@ use std::alloc::Global;
 use words::line;
 
 /// The longest input that is read as a script.
-const MOST_BYTES: usize = 65_536;
+pub const MOST_BYTES: usize = 65_536;
 
 /// Done, or the refusal.
 fn done_or(result: Result<(), Refusal>) -> Answer

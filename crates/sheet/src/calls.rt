@@ -1,8 +1,7 @@
-ghost use Prim.Native.Nat.{_<_};
+ghost use Prim.Native.Nat.{ℕ, _<_};
 ghost use mathlib.Core.Path.{_≡_};
-ghost use Rattle.std.specs.Results.{Cases};
 ghost use Rattle.catalogue.specs.Refusals.{numbered};
-ghost use Rattle.sheet.specs.Calls.{bad-budget, done, enter-answer, enter-asked, enter-table, in-patterns, is-settled, is-void, limit-asked, limit-table, limits-read, look-answer, outcome-of, run-answer, settle-asked, settle-table, shown};
+ghost use Rattle.sheet.specs.Calls.{Steps, bad-budget, done, ended-in, enter-answer, enter-asked, enter-table, in-patterns, is-settled, limit-asked, limit-table, look-answer, outcome-number, run-answer, run-asked, settle-answer, settle-asked, settle-table, shown};
 ghost use Rattle.sheet.specs.Index.{Indexed};
 ghost use Rattle.sheet.specs.Places.{has};
 ghost use Rattle.sheet.specs.Rules.{new-table, settled, table-of};
@@ -20,7 +19,7 @@ use catalogue::types::Refusal;
 
 /// How a settle that leaves a state ended.
 fn outcome(state: State) -> Outcome
-    ensures { λ r. ⌜ r ≡ outcome-of state ⌝ }
+    ensures { λ r. ⌜ outcome-number r ≡ ended-in state ⌝ }
 {
     match state {
         State::Settled => Outcome::Settled,
@@ -124,7 +123,7 @@ impl<C: Catalogue> Sheet<C> {
 
     /// Steps until rest or until the budget is spent, whatever the budget.
     fn run(&mut self, budget: u32) -> (Outcome, u32)
-        ensures answer { λ r. ⌜ r ≡ run-answer (settled (meaning (now (self .entry) .catalogue)) budget (now (self .entry) .table)) ⌝ }
+        ensures answer { λ r. ⌜ run-answer r ≡ run-asked (settled (meaning (now (self .entry) .catalogue)) budget (now (self .entry) .table)) ⌝ }
         ensures table { λ _. ⌜ now (self .exit) .table ≡ settled (meaning (now (self .entry) .catalogue)) budget (now (self .entry) .table) .table ⌝ }
         ensures catalogue { λ _. ⌜ now (self .exit) .catalogue ≡ now (self .entry) .catalogue ⌝ }
     {
@@ -134,9 +133,10 @@ impl<C: Catalogue> Sheet<C> {
 
     /// Steps until rest or until the budget is spent: how it ended, and how many steps were made.
     pub fn settle(&mut self, budget: u32) -> Result<(Outcome, u32), Refusal>
-        ensures answer { λ r. ⌜ numbered r ≡ settle-asked (meaning (now (self .entry) .catalogue)) budget (now (self .entry) .table) ⌝ }
+        ensures answer { λ r. ⌜ settle-answer r ≡ settle-asked (meaning (now (self .entry) .catalogue)) budget (now (self .entry) .table) ⌝ }
         ensures table { λ _. ⌜ now (self .exit) .table ≡ settle-table (meaning (now (self .entry) .catalogue)) budget (now (self .entry) .table) ⌝ }
         ensures catalogue { λ _. ⌜ now (self .exit) .catalogue ≡ now (self .entry) .catalogue ⌝ }
+        ensures words { λ _. ⌜ ((b : ℕ) → Steps b (now (self .entry) .table) (settled (meaning (now (self .entry) .catalogue)) b (now (self .entry) .table))) ⌝ }
         ensures index { λ _. ⌜ (Indexed (now (self .entry) .table) → Indexed (now (self .exit) .table)) ⌝ }
     {
         if is_bad_budget(budget) {
