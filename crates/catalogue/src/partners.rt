@@ -18,7 +18,11 @@ impl Kind {
     fn toward_z(self) -> Asks
         ensures { λ r. ⌜ r ≡ toward-z self ⌝ }
     {
-        if self.falls_in_y() { Asks::AtMost } else { Asks::AtLeast }
+        if self.falls_in_y() {
+            Asks::AtMost
+        } else {
+            Asks::AtLeast
+        }
     }
 }
 

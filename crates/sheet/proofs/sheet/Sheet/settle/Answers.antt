@@ -9,7 +9,8 @@ returns-then-is-bad-budget g c = record {
   table = search needs;
   catalogue = search needs;
   words = λ b. settled-steps (g .C·Catalogue .meaning (c .args .self .now .catalogue)) b (c .args .self .now .table);
-  index = λ i. i }
+  index = λ i. i;
+}
 
 pub returns : need.returns
 returns g c = record {
@@ -17,4 +18,5 @@ returns g c = record {
   table = search needs;
   catalogue = search needs;
   words = λ b. settled-steps (g .C·Catalogue .meaning (c .args .self .now .catalogue)) b (c .args .self .now .table);
-  index = settled-indexed (g .C·Catalogue .meaning (c .args .self .now .catalogue)) (c .args .budget) (c .args .self .now .table) _ (c .run .ensures .table) }
+  index = settled-indexed (g .C·Catalogue .meaning (c .args .self .now .catalogue)) (c .args .budget) (c .args .self .now .table) _ (c .run .ensures .table);
+}

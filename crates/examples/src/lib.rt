@@ -1,3 +1,5 @@
+//! Worked examples of the definitions, small enough to be checked by hand.
+
 ghost use Rattle.examples.specs.Worked.{Worked};
 ghost use mathlib.Core.Path.{_≡_};
 
@@ -7,8 +9,4 @@ pub fn worked_examples() -> u32
     ensures count { λ r. ⌜ r ≡ 4 ⌝ }
 {
     4
-}
-
-fn main() {
-    let _ = worked_examples();
 }
