@@ -9,3 +9,4 @@ pub mod Signs
 pub mod Between
 pub mod Fields
 pub mod Theorems
+pub mod Spans

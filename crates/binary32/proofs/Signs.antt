@@ -2,6 +2,7 @@
 use Prim.Native.Nat.{ℕ, zero, suc, _+_, _-_, _<_, _≤_}
 use mathlib.Core.Bool.{Bool, true, false, Bool·beq}
 use mathlib.Core.Path.{_≡_, refl, sym, ap, _∙_}
+use mathlib.Core.Logic.{_⊎_, inl, inr}
 use native.Mathlib.Omega.{arith}
 use lib.Dec.{leb·suc-zero}
 use lib.IntN.{ℤ, pos, negsuc, negℤ, _+ℤ_, natAbs}
@@ -44,6 +45,18 @@ sum-located x y x′ y′ a b l p q u v h c =
     let sx : ltZ x′ (pos 0) ≡ is-negative x = ap (λ (z : ℤ). ltZ z (pos 0)) p ∙ below-zero x in
     let sy : ltZ y′ (pos 0) ≡ is-negative y = ap (λ (z : ℤ). ltZ z (pos 0)) q ∙ below-zero y in
     rw sx (joins x y l h (rw (sx, sy, au, bv) at c))
+
+-- two ranks in either order
+abbrev Either : ℤ → ℤ → ℤ → ℤ → Type 0
+Either x y a b = ((a ≡ x) × (b ≡ y)) ⊎ ((a ≡ y) × (b ≡ x))
+
+pub pair-sum : (x y a b : ℤ) → Either x y a b → value a +ℤ value b ≡ value x +ℤ value y
+pair-sum x y a b (inl p) = let u = ap value (p .0) in let v = ap value (p .1) in omega (arith, ints)
+pair-sum x y a b (inr p) = let u = ap value (p .0) in let v = ap value (p .1) in omega (arith, ints)
+
+pub pair-reading : (x y a b : ℤ) → Either x y a b → Reading x → Reading y → natAbs a < beyond
+pair-reading x y a b (inl p) h k = let u = p .0 in omega (arith, ints, h .0, h .1)
+pair-reading x y a b (inr p) h k = let u = p .0 in omega (arith, ints, k .0, k .1)
 
 -- ---- a mode's rank from a location
 

@@ -53,11 +53,6 @@ value-neg (pos zero) = let z : units 0 ≡ 0 = units-low 0 (omega arith) in omeg
 value-neg (pos (suc n)) = refl
 value-neg (negsuc n) = sym (negℤ-negℤ (pos (units (suc n))))
 
-pub sum-mono : (m : Mode) (x x′ y y′ : ℤ) → x ≤ℤ x′ → y ≤ℤ y′ → rounded m (value x +ℤ value y) ≤ℤ rounded m (value x′ +ℤ value y′)
-sum-mono m x x′ y y′ h k = rounded-mono m _ _ (let a = value-mono x x′ h in let b = value-mono y y′ k in omega (arith, ints))
-
-pub neg-mono : (y z : ℤ) → y ≤ℤ z → negℤ z ≤ℤ negℤ y
-neg-mono y z h = omega (arith, ints)
-
-pub difference-mono : (m : Mode) (x x′ y y′ : ℤ) → x ≤ℤ x′ → y′ ≤ℤ y → rounded m (value x +ℤ value (negℤ y)) ≤ℤ rounded m (value x′ +ℤ value (negℤ y′))
-difference-mono m x x′ y y′ h k = sum-mono m x x′ (negℤ y) (negℤ y′) h (neg-mono y′ y k)
+-- as the code negates: 0 less x
+pub value-less : (x : ℤ) → value (pos 0 +ℤ negℤ x) ≡ negℤ (value x)
+value-less x = let e : pos 0 +ℤ negℤ x ≡ negℤ x = omega (arith, ints) in ap value e ∙ value-neg x

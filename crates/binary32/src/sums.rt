@@ -1,3 +1,4 @@
+ghost use mathlib.Core.Logic.{_⊎_};
 ghost use mathlib.Core.Path.{_≡_};
 ghost use Prim.Native.Nat.{_≤_};
 ghost use lib.IntN.{_+ℤ_, natAbs, negℤ};
@@ -106,7 +107,7 @@ impl ExactSum {
 /// Two operands in the order of their magnitudes.
 fn ordered(x: i32, y: i32) -> Operands
     ensures order { λ r. ⌜ natAbs (r .smaller) ≤ natAbs (r .larger) ⌝ }
-    ensures sum { λ r. ⌜ value (r .larger) +ℤ value (r .smaller) ≡ value x +ℤ value y ⌝ }
+    ensures pair { λ r. ⌜ ((r .larger ≡ x) × (r .smaller ≡ y)) ⊎ ((r .larger ≡ y) × (r .smaller ≡ x)) ⌝ }
 {
     if y.unsigned_abs() <= x.unsigned_abs() {
         Operands {
