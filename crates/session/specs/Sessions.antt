@@ -10,6 +10,7 @@ use Rattle.std.specs.declared.result.Result.{Result}
 use Rattle.std.specs.declared.result.Result.the-variants.{Ok, Err}
 use Rattle.catalogue.specs.declared.types.Kind.{Kind}
 use Rattle.catalogue.specs.Meanings.{Meaning}
+use Rattle.binary32.specs.Binary32.{binary}
 use Rattle.counters.specs.Counters.{counter}
 use Rattle.sheet.specs.declared.lines.DrawnLine.{DrawnLine}
 use Rattle.sheet.specs.declared.table.Table.{Table}
@@ -22,7 +23,7 @@ use Rattle.commands.specs.declared.Command.{Command}
 use Rattle.commands.specs.declared.Command.the-variants.{Limit, Enter, Settle, Look}
 use Rattle.commands.specs.Commands.{command-of}
 use Rattle.session.specs.declared.Board.{Board}
-use Rattle.session.specs.declared.Board.the-variants.{Counter}
+use Rattle.session.specs.declared.Board.the-variants.{Binary32, Counter}
 use Rattle.answers.specs.Texts.{Reply, ok, refused, stepped, shown as shows, line-of}
 
 -- ---- one command
@@ -70,15 +71,16 @@ abbrev pub answers : Meaning → List (List ℕ) → Table → List ℕ
 answers m [] t = []
 answers m (l ∷ ls) t = line-of (replied m (command-of l) t) ++ answers m ls (table-after m (command-of l) t)
 
--- the first line names the catalogue: C, for counters
+-- the first line names the catalogue: B for binary32, C for counters
 abbrev pub board-of : List ℕ → Option Board
 board-of [] = None
-board-of (b ∷ []) = cond (eqb b 67) (Some Counter) None
+board-of (b ∷ []) = cond (eqb b 66) (Some Binary32) (cond (eqb b 67) (Some Counter) None)
 board-of (b ∷ c ∷ bs) = None
 
 -- the answers to a script over a catalogue; a script that names none is unreadable as a whole
 abbrev pub by-board : Option Board → List (List ℕ) → List ℕ
 by-board None ls = line-of (refused 10)
+by-board (Some Binary32) ls = answers binary ls (new-table binary)
 by-board (Some Counter) ls = answers counter ls (new-table counter)
 
 -- what is written for an input; one that is too long is answered as a whole

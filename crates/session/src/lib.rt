@@ -15,6 +15,8 @@ ghost use Rattle.sheet.specs.Rules.{new-table};
 ghost use Rattle.words.specs.Lines.{lines};
 use answers::Answer;
 use answers::write;
+use binary32::binary32::Binary32;
+use binary32::binary32::Binary32Catalogue;
 use catalogue::interface::Catalogue;
 use catalogue::types::Refusal;
 use commands::Command;
@@ -178,6 +180,7 @@ fn unreadable(heap: Global) -> Result<String, AllocError>
 /// The catalogues that a script can name.
 #[derive(Clone, Copy)]
 enum Board {
+    Binary32,
     Counter,
 }
 
@@ -186,6 +189,7 @@ fn board_of(line: &[u8]) -> Option<Board>
     ensures { λ r. ⌜ r ≡ board-of (now (line .entry)) ⌝ }
 {
     match line {
+        [b'B'] => Some(Board::Binary32),
         [b'C'] => Some(Board::Counter),
         _ => None,
     }
@@ -196,6 +200,7 @@ fn answer_over(heap: Global, board: Option<Board>, script: &[u8]) -> Result<Stri
     ensures { λ r. ⌜ made r (λ s. string-bytes s ≡ by-board board (lines (now (script .entry)))) ⌝ }
 {
     match board {
+        Some(Board::Binary32) => answer_anew(Binary32::new(), heap, script),
         Some(Board::Counter) => answer_anew(Counter, heap, script),
         None => unreadable(heap),
     }
