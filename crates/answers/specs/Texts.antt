@@ -1,37 +1,36 @@
 -- The text of an answer, and the line that it makes.
 use mathlib.Core.List.{List, _++_}
-use mathlib.Core.Bool.{Bool, true, false}
+use mathlib.Core.Bool.{Bool, true, false, cond}
 use Prim.Native.Nat.{ℕ}
 use lib.Chars.{codes}
+use lib.Dec.{eqb}
 use Rattle.std.specs.Written.{decimal}
 use Rattle.catalogue.specs.Refusals.{number-of}
 use Rattle.words.specs.Numbers.{written}
 use Rattle.answers.specs.declared.Answer.{Answer}
 use Rattle.answers.specs.declared.Answer.the-variants.{Done, Declined, Stepped, Shown}
-use Rattle.sheet.specs.declared.table.Outcome.{Outcome}
-use Rattle.sheet.specs.declared.table.Outcome.the-variants.{Settled, Stopped, Void}
+use Rattle.sheet.specs.Calls.{outcome-number}
 
-abbrev pub outcome-text : Outcome → List ℕ
-outcome-text Settled = codes "settled"
-outcome-text Stopped = codes "stopped"
-outcome-text Void = codes "void"
+-- how a settle ended, by its number
+abbrev pub outcome-text : ℕ → List ℕ
+outcome-text k = cond (eqb k 0) (codes "settled") (cond (eqb k 1) (codes "stopped") (codes "void"))
 
 -- whether the sheet is settled
 abbrev pub state-text : Bool → List ℕ
 state-text true = codes "settled"
 state-text false = codes "open"
 
--- an answer by its number and its values
+-- an answer by its values: a refusal and an outcome are numbers
 pub data Reply : Type 0 where
   ok : Reply
   refused : ℕ → Reply
-  stepped : Outcome → ℕ → Reply
+  stepped : ℕ → ℕ → Reply
   shown : ℕ → ℕ → Bool → Reply
 
 abbrev pub reply-of : Answer → Reply
 reply-of Done = ok
 reply-of (Declined refusal) = refused (number-of refusal)
-reply-of (Stepped outcome steps) = stepped outcome steps
+reply-of (Stepped outcome steps) = stepped (outcome-number outcome) steps
 reply-of (Shown low high settled) = shown low high settled
 
 abbrev pub text-of : Reply → List ℕ

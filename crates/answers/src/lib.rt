@@ -5,6 +5,7 @@ ghost use Rattle.answers.specs.Texts.{line-of, outcome-text, reply-of, state-t
 ghost use Rattle.std.specs.Of.String.{string-bytes};
 ghost use Rattle.std.specs.Results.{isOk};
 ghost use Rattle.std.specs.declared.option.Option.the-variants.{Some};
+ghost use Rattle.sheet.specs.Calls.{outcome-number};
 ghost use Rattle.words.specs.Numbers.{glyph-of, written};
 ghost use mathlib.Core.Bool.{cond};
 ghost use mathlib.Core.List.{_++_};
@@ -57,7 +58,7 @@ pub impl fmt::Display for Answer as AnswerDisplay {
 
 /// How a settle's answer names its outcome.
 fn ended(outcome: Outcome) -> &'static str
-    ensures { λ r. ⌜ now r ≡ outcome-text outcome ⌝ }
+    ensures { λ r. ⌜ now r ≡ outcome-text (outcome-number outcome) ⌝ }
 {
     match outcome {
         Outcome::Settled => "settled",

@@ -1,23 +1,16 @@
 -- What the code has in hand as it narrows.
-use mathlib.Core.Bool.{Bool, true, false, cond}
-use mathlib.Core.Path.{_≡_, sym, ap, subst, _∙_}
+use mathlib.Core.Path.{_≡_, sym, subst, _∙_}
 use native.Mathlib.Omega.{arith}
-use lib.IntN.{ℤ}
 use lib.Signed.{_≤ℤ_, leZ}
 use Rattle.std.specs.declared.option.Option.{Option}
 use Rattle.std.specs.declared.option.Option.the-variants.{Some, None}
 use Rattle.std.proofs.shelf.Signed.{ints, clamps}
 use Rattle.std.proofs.shelf.Tests.{cond-both}
-use Rattle.catalogue.specs.declared.types.Kind.{Kind}
-use Rattle.catalogue.specs.declared.types.Modes.{Modes}
-use Rattle.catalogue.specs.declared.types.Operand.the-variants.{X, Y}
 use Rattle.catalogue.specs.declared.types.Range.{Range}
-use Rattle.catalogue.specs.declared.types.Span.{Span}
 use Rattle.catalogue.specs.declared.types.Triple.{Triple}
 use Rattle.catalogue.specs.Ranges.{Proper, unless-empty, meet, all-three}
-use Rattle.catalogue.specs.Operations.{Arith, Reading, readings, span-of}
-use Rattle.catalogue.specs.Narrowing.{y-for-least, y-for-greatest}
-use Rattle.catalogue.specs.Search.{kept, results, cut, narrowed-readings}
+use Rattle.catalogue.specs.Operations.{Arith, Reading, readings}
+use Rattle.catalogue.specs.Search.{cut}
 use Rattle.catalogue.proofs.Rising.{le-true}
 
 -- a range of readings that is not empty

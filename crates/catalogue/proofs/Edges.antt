@@ -3,7 +3,7 @@ use Prim.Native.Nat.{ℕ, _^_, _≤_, _<_}
 use mathlib.Core.Bool.{Bool, true, false, not}
 use mathlib.Core.Path.{_≡_, sym, ap, subst, _∙_}
 use native.Mathlib.Omega.{arith}
-use lib.IntN.{ℤ, pos, negsuc, _-ℤ_, natAbs}
+use lib.IntN.{ℤ, pos, _-ℤ_, natAbs}
 use lib.Signed.{_≤ℤ_, pos-natAbs, yes-nonNeg}
 use mir.Val.{SFits}
 use mir.Syntax.{w32}

@@ -4,12 +4,12 @@ use native.Mathlib.Omega.{arith}
 use native.Mathlib.Nat.{two-pow-succ}
 use mathlib.Core.Bool.{Bool, true, false, cond}
 use mathlib.Core.Path.{_≡_, refl, sym, ap, subst, _∙_}
-use mathlib.Core.Logic.{_⊎_, inl, inr, ⊎-elim}
+use mathlib.Core.Logic.{_⊎_, ⊎-elim}
 use lib.Dec.{leb}
 use lib.Pow.{pow-pos}
 use Rattle.std.specs.declared.option.Option.{Option}
 use Rattle.std.specs.declared.option.Option.the-variants.{Some, None}
-use Rattle.std.proofs.shelf.Tests.{both-ways, cond-both, cases-bool, cases-lt, cases-order, leb-true, leb-false, le-leb, lt-leb, cond-true, cond-false}
+use Rattle.std.proofs.shelf.Tests.{both-ways, cond-both, cases-lt, cases-order, le-leb, lt-leb, cond-true, cond-false}
 use Rattle.catalogue.specs.First.{halved, picked, first, First, Stays}
 
 pub not-passed : (b : Bool) → (b ≡ true → ⊥) → b ≡ false

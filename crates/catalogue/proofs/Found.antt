@@ -1,15 +1,14 @@
 -- The computed partner is some y that makes an allowed triple, and none exactly if there is none.
-use mathlib.Core.Bool.{Bool, true, false, cond, _&&_}
+use mathlib.Core.Bool.{Bool, true, _&&_}
 use mathlib.Core.Path.{_≡_, refl, sym, ap, subst, _∙_}
 use mathlib.Core.Logic.{_⊎_, inl, inr, ⊎-elim}
 use native.Mathlib.Omega.{arith}
 use lib.IntN.{ℤ}
 use lib.Signed.{_≤ℤ_, leZ}
-use Prim.Native.Nat.{ℕ}
 use Rattle.std.specs.declared.option.Option.{Option}
 use Rattle.std.specs.declared.option.Option.the-variants.{Some, None}
 use Rattle.std.proofs.shelf.Signed.{ints, clamps}
-use Rattle.std.proofs.shelf.Tests.{both-ways, cond-both, and-parts, and-from, and-cases, cond-true, cond-false}
+use Rattle.std.proofs.shelf.Tests.{both-ways, cond-both, and-parts, and-from}
 use Rattle.catalogue.specs.declared.types.Kind.{Kind}
 use Rattle.catalogue.specs.declared.types.Kind.the-variants.{Sum, Difference, Peak}
 use Rattle.catalogue.specs.declared.types.Mode.{Mode}
@@ -17,13 +16,13 @@ use Rattle.catalogue.specs.declared.types.Mode.the-variants.{Nearest, Up, Down
 use Rattle.catalogue.specs.declared.types.Modes.{Modes}
 use Rattle.catalogue.specs.declared.types.Range.{Range}
 use Rattle.catalogue.specs.Modes.{has-mode, only}
-use Rattle.catalogue.specs.Ranges.{Holds, holds, Proper, meet, unless-empty}
-use Rattle.catalogue.specs.Operations.{Arith, ArithLaws, Reading, readings, least-result, greatest-result, nearest-reading, span-of, equal, allowed}
+use Rattle.catalogue.specs.Ranges.{Holds, holds, meet, unless-empty}
+use Rattle.catalogue.specs.Operations.{Arith, ArithLaws, Reading, readings, nearest-reading, span-of, equal, allowed}
 use Rattle.catalogue.specs.Search.{passes, rises, edge}
 use Rattle.catalogue.specs.Partners.{SomeOf, first-y, if-met, partner-by, or-else, partner-in, partnered}
 use Rattle.catalogue.proofs.Sets.{only-least, only-greatest}
 use Rattle.catalogue.proofs.Rising.{le-true, true-le, nearest-self}
-use Rattle.catalogue.proofs.Allowed.{AllowedBy, allowed-by, by-allowed, equal-true, true-equal, holds-true}
+use Rattle.catalogue.proofs.Allowed.{allowed-by, by-allowed, equal-true, true-equal, holds-true}
 use Rattle.catalogue.proofs.Cuts.{Sound, cut-sound-of}
 use Rattle.catalogue.proofs.Words.{Edge, edge-is}
 

@@ -1,18 +1,16 @@
 -- A question that rises keeps passing as the rank grows, from the laws of an arithmetic.
 use Prim.Native.Nat.{ℕ, _≤_}
-use mathlib.Core.Bool.{Bool, true, false, cond}
+use mathlib.Core.Bool.{Bool, true, false}
 use mathlib.Core.Path.{_≡_, refl}
 use native.Mathlib.Omega.{arith}
 use lib.IntN.{ℤ, pos, negsuc, _+ℤ_, _-ℤ_}
 use lib.Signed.{_≤ℤ_, leZ}
 use mir.Val.{SFits}
 use mir.Syntax.{w32}
-use Rattle.std.specs.Numbers.{maxZ, minZ}
 use Rattle.std.proofs.shelf.Signed.{ints, clamps}
 use Rattle.std.proofs.shelf.Tests.{false≢true, true≢false}
 use Rattle.catalogue.specs.declared.types.Kind.{Kind}
 use Rattle.catalogue.specs.declared.types.Kind.the-variants.{Sum, Difference, Peak}
-use Rattle.catalogue.specs.declared.types.Mode.{Mode}
 use Rattle.catalogue.specs.declared.types.Modes.{Modes}
 use Rattle.catalogue.specs.declared.types.Operand.{Operand}
 use Rattle.catalogue.specs.declared.types.Operand.the-variants.{X, Y}

@@ -1,13 +1,14 @@
 -- The least and the greatest among the modes of a set
-use Prim.Native.Nat.{ℕ}
-use mathlib.Core.Bool.{Bool, true, false, cond}
-use mathlib.Core.Path.{_≡_, refl, sym, ap, subst, _∙_}
-use mathlib.Core.Logic.{_⊎_, inl, inr, ⊎-elim}
+use Prim.Native.Nat.{ℕ, _/_, _%_, _<_}
+use mathlib.Core.Bool.{Bool, true, false}
+use mathlib.Core.Path.{_≡_, refl, ap, _∙_}
+use mathlib.Core.Logic.{_⊎_, ⊎-elim}
 use native.Mathlib.Omega.{arith}
 use lib.IntN.{ℤ}
 use lib.Signed.{_≤ℤ_, _<ℤ_, ≤ℤ-refl}
 use Rattle.std.proofs.shelf.Signed.{ints, clamps, by-ltZ}
-use Rattle.std.proofs.shelf.Tests.{cases-bool, eqb-false, false≢true, cond-true}
+use Rattle.std.specs.Numbers.{maxZ, minZ}
+use Rattle.std.proofs.shelf.Tests.{cases-bool, eqb-false, false≢true, cond-true, cond-false}
 use Rattle.catalogue.specs.declared.types.Mode.{Mode}
 use Rattle.catalogue.specs.declared.types.Mode.the-variants.{Nearest, Up, Down, TowardZero}
 use Rattle.catalogue.specs.declared.types.Modes.{Modes}
@@ -92,3 +93,80 @@ only-greatest Nearest f = refl
 only-greatest Up f = omega (arith, ints, clamps)
 only-greatest Down f = omega (arith, ints, clamps)
 only-greatest TowardZero f = omega (arith, ints, clamps)
+
+-- ---- modes without effect
+lesser-same : (b : Bool) (v : ℤ) → lesser-if b v v ≡ v
+lesser-same true v = omega (arith, ints, clamps)
+lesser-same false v = refl
+
+greater-same : (b : Bool) (v : ℤ) → greater-if b v v ≡ v
+greater-same true v = omega (arith, ints, clamps)
+greater-same false v = refl
+
+pub least-alike : (s : Modes) (v : ℤ) → least-of s (λ m. v) ≡ v
+unfolding least-of
+least-alike s v =
+    ap (λ u. lesser-if (has-mode s TowardZero) (lesser-if (has-mode s Down) u v) v) (lesser-same (has-mode s Up) v)
+    ∙ ap (λ u. lesser-if (has-mode s TowardZero) u v) (lesser-same (has-mode s Down) v) ∙ lesser-same (has-mode s TowardZero) v
+
+pub greatest-alike : (s : Modes) (v : ℤ) → greatest-of s (λ m. v) ≡ v
+unfolding greatest-of
+greatest-alike s v =
+    ap (λ u. greater-if (has-mode s TowardZero) (greater-if (has-mode s Down) u v) v) (greater-same (has-mode s Up) v)
+    ∙ ap (λ u. greater-if (has-mode s TowardZero) u v) (greater-same (has-mode s Down) v) ∙ greater-same (has-mode s TowardZero) v
+
+-- ---- the least and the greatest are reached
+no-bit : (n : ℕ) → n < 2 → n % 2 ≡ 0 → n ≡ 0
+no-bit n a b = omega arith
+
+no-bits : (n : ℕ) → 0 < n → n < 16 → n % 2 ≡ 0 → n / 2 % 2 ≡ 0 → n / 4 % 2 ≡ 0 → n / 8 % 2 ≡ 0 → ⊥
+no-bits n a b h i j k =
+    let e8 : n < 8 = omega (arith, no-bit (n / 8) (omega arith) k) in
+    let e4 : n < 4 = omega (arith, no-bit (n / 4) (omega arith) j) in
+    let e2 : n < 2 = omega (arith, no-bit (n / 2) (omega arith) i) in
+    omega (arith, no-bit n e2 h)
+
+module _ (s : Modes) (some : 0 < s .bits) (few : s .bits < 16) where
+  -- the first mode is one of the set
+  pub has-first : has-mode s (first-mode s) ≡ true
+  has-first =
+      ⊎-elim (λ (h : has-mode s Nearest ≡ true). ap (has-mode s) (cond-true (has-mode s Nearest) Nearest _ h) ∙ h) (λ (h : has-mode s Nearest ≡ false).
+      ap (has-mode s) (cond-false (has-mode s Nearest) Nearest _ h) ∙
+      ⊎-elim (λ (i : has-mode s Up ≡ true). ap (has-mode s) (cond-true (has-mode s Up) Up _ i) ∙ i) (λ (i : has-mode s Up ≡ false).
+      ap (has-mode s) (cond-false (has-mode s Up) Up _ i) ∙
+      ⊎-elim (λ (j : has-mode s Down ≡ true). ap (has-mode s) (cond-true (has-mode s Down) Down TowardZero j) ∙ j) (λ (j : has-mode s Down ≡ false).
+      ap (has-mode s) (cond-false (has-mode s Down) Down TowardZero j) ∙ last h i j)
+      (cases-bool (has-mode s Down))) (cases-bool (has-mode s Up))) (cases-bool (has-mode s Nearest))
+    where
+      last : has-mode s Nearest ≡ false → has-mode s Up ≡ false → has-mode s Down ≡ false → has-mode s TowardZero ≡ true
+      last h i j = ⊎-elim (λ (k : has-mode s TowardZero ≡ true). k) (λ (k : has-mode s TowardZero ≡ false).
+          let h0 : s .bits % 2 ≡ 0 = omega (arith, eqb-false (s .bits % 2) 1 h) in
+          let i0 : s .bits / 2 % 2 ≡ 0 = omega (arith, eqb-false (s .bits / 2 % 2) 1 i) in
+          let j0 : s .bits / 4 % 2 ≡ 0 = omega (arith, eqb-false (s .bits / 4 % 2) 1 j) in
+          let k0 : s .bits / 8 % 2 ≡ 0 = omega (arith, eqb-false (s .bits / 8 % 2) 1 k) in
+          absurd (no-bits (s .bits) some few h0 i0 j0 k0))
+          (cases-bool (has-mode s TowardZero))
+
+  module _ (f : Mode → ℤ) where
+    abbrev Reached : ℤ → Type 0
+    Reached v = (m : Mode) × (has-mode s m ≡ true) × (v ≡ f m)
+
+    lesser-reached : (v : ℤ) (m : Mode) → Reached v → Reached (lesser-if (has-mode s m) v (f m))
+    lesser-reached v m r =
+        ⊎-elim (λ (h : has-mode s m ≡ true). rw (cond-true (has-mode s m) (minZ v (f m)) v h)
+        (by-ltZ (f m) v (λ (l : f m <ℤ v). (m, h, omega (arith, ints, clamps))) (λ (l : v ≤ℤ f m). let e : minZ v (f m) ≡ v = omega (arith, ints, clamps) in (r .0, r .1, e ∙ r .2))))
+        (λ (h : has-mode s m ≡ false). rw (cond-false (has-mode s m) (minZ v (f m)) v h) r) (cases-bool (has-mode s m))
+
+    greater-reached : (v : ℤ) (m : Mode) → Reached v → Reached (greater-if (has-mode s m) v (f m))
+    greater-reached v m r =
+        ⊎-elim (λ (h : has-mode s m ≡ true). rw (cond-true (has-mode s m) (maxZ v (f m)) v h)
+        (by-ltZ v (f m) (λ (l : v <ℤ f m). (m, h, omega (arith, ints, clamps))) (λ (l : f m ≤ℤ v). let e : maxZ v (f m) ≡ v = omega (arith, ints, clamps) in (r .0, r .1, e ∙ r .2))))
+        (λ (h : has-mode s m ≡ false). rw (cond-false (has-mode s m) (maxZ v (f m)) v h) r) (cases-bool (has-mode s m))
+
+    pub least-reached : (m : Mode) × (has-mode s m ≡ true) × (least-of s f ≡ f m)
+    unfolding least-of
+    least-reached = lesser-reached _ TowardZero (lesser-reached _ Down (lesser-reached _ Up (first-mode s, has-first, refl)))
+
+    pub greatest-reached : (m : Mode) × (has-mode s m ≡ true) × (greatest-of s f ≡ f m)
+    unfolding greatest-of
+    greatest-reached = greater-reached _ TowardZero (greater-reached _ Down (greater-reached _ Up (first-mode s, has-first, refl)))

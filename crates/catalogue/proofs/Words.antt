@@ -1,17 +1,17 @@
 -- The computed narrowing is the one in words.
-use Prim.Native.Nat.{ℕ, zero, _+_, _^_, _≤_, _<_}
-use mathlib.Core.Bool.{Bool, true, false, cond, not}
+use Prim.Native.Nat.{ℕ, _+_, _^_, _≤_, _<_}
+use mathlib.Core.Bool.{Bool, true, false}
 use mathlib.Core.Path.{_≡_, refl, sym, ap, subst, _∙_}
 use mathlib.Core.Logic.{_⊎_, inl, inr, ⊎-elim}
 use native.Mathlib.Omega.{arith}
 use lib.IntN.{ℤ, pos, negsuc, _+ℤ_, _-ℤ_, natAbs}
-use lib.Signed.{_≤ℤ_, _<ℤ_, leZ, pos-natAbs, yes-nonNeg}
+use lib.Signed.{_≤ℤ_, _<ℤ_, leZ}
 use mir.Val.{SFits}
 use mir.Syntax.{w32}
 use Rattle.std.specs.declared.option.Option.{Option}
 use Rattle.std.specs.declared.option.Option.the-variants.{Some, None}
-use Rattle.std.proofs.shelf.Signed.{ints, clamps, by-ltZ}
-use Rattle.std.proofs.shelf.Tests.{both-ways, cases-lt, cases-bool, cond-both, cond-true, cond-false, false≢true}
+use Rattle.std.proofs.shelf.Signed.{ints, clamps}
+use Rattle.std.proofs.shelf.Tests.{both-ways, cases-lt, cases-bool, cond-both, cond-true, cond-false}
 use Rattle.catalogue.specs.declared.types.Kind.{Kind}
 use Rattle.catalogue.specs.declared.types.Kind.the-variants.{Sum, Difference, Peak}
 use Rattle.catalogue.specs.declared.types.Modes.{Modes}
@@ -24,7 +24,7 @@ use Rattle.catalogue.specs.First.{first, First}
 use Rattle.catalogue.specs.Ranges.{Holds, Proper, unless-empty, meet, extent, all-three}
 use Rattle.catalogue.specs.Operations.{Arith, ArithLaws, Reading, readings, least-result, greatest-result, nearest-reading}
 use Rattle.catalogue.specs.Narrowing.{y-for-least, y-for-greatest, cut-to-readings, KeepsX, KeepsY, KeepsZ, Exactly, NarrowsReadings, Narrows}
-use Rattle.catalogue.specs.Search.{passes, rises, moved, origin, reached, edge, between, reaches, stays-in, kept, results, cut, narrowed-readings, narrowed-cut, narrowed}
+use Rattle.catalogue.specs.Search.{passes, rises, moved, origin, reached, edge, between, reaches, stays-in, kept, results, narrowed-readings, narrowed-cut, narrowed}
 use Rattle.catalogue.proofs.Firsts.{first-is}
 use Rattle.catalogue.proofs.Rising.{stays, on, le-true, true-le, reading-fits, nearest-self}
 use Rattle.catalogue.proofs.Edges.{apart}

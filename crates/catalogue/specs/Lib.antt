@@ -1,5 +1,5 @@
--- The catalogue interface. Read from the top: what a reader must believe stands in Modes, Ranges, Operations, Narrowing and Meanings;
--- First and Search compute the same answers, so that examples can be worked out, and are proved to agree with Narrowing.
+-- The catalogue interface. Read from the top: what a reader must believe stands in Refusals, Modes, Ranges, Operations, Narrowing and Meanings;
+-- First, Search and Partners compute answers, so that examples can be worked out, and are proved to agree with the words.
 pub mod Refusals
 pub mod Modes
 pub mod Ranges

@@ -1,5 +1,5 @@
 -- Sets of rounding modes: a sum of 1 (nearest), 2 (up), 4 (down) and 8 (toward zero).
-use Prim.Native.Nat.{ℕ, _/_, _%_}
+use Prim.Native.Nat.{_/_, _%_}
 use mathlib.Core.Bool.{Bool, cond, _&&_, _||_}
 use lib.Dec.{eqb}
 use lib.IntN.{ℤ}

@@ -1,5 +1,4 @@
 -- An arithmetic: its readings, and the result of each kind of operation under one rounding mode, all on ranks.
-use Prim.Native.Nat.{ℕ}
 use mathlib.Core.Bool.{Bool, true, false, _&&_}
 use mathlib.Core.Path.{_≡_}
 use mir.Val.{SFits}
@@ -52,7 +51,7 @@ falls-in-y Sum = false
 falls-in-y Difference = true
 falls-in-y Peak = false
 
--- one rank after another, as y grows
+-- two results in the order that y gives them: the first is no greater, or, where results fall, no less
 abbrev pub In-order : Bool → ℤ → ℤ → Type 0
 In-order false v w = v ≤ℤ w
 In-order true v w = w ≤ℤ v

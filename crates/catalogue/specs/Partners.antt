@@ -5,7 +5,6 @@ use lib.IntN.{ℤ}
 use Rattle.std.specs.declared.option.Option.{Option}
 use Rattle.std.specs.declared.option.Option.the-variants.{Some, None}
 use Rattle.catalogue.specs.declared.types.Kind.{Kind}
-use Rattle.catalogue.specs.declared.types.Kind.the-variants.{Sum, Difference, Peak}
 use Rattle.catalogue.specs.declared.types.Mode.{Mode}
 use Rattle.catalogue.specs.declared.types.Mode.the-variants.{Nearest, Up, Down, TowardZero}
 use Rattle.catalogue.specs.declared.types.Modes.{Modes}
@@ -16,7 +15,7 @@ use Rattle.catalogue.specs.declared.types.Question.{Question}
 use Rattle.catalogue.specs.declared.types.Range.{Range}
 use Rattle.catalogue.specs.Modes.{has-mode, only}
 use Rattle.catalogue.specs.Ranges.{Holds, holds, unless-empty, meet}
-use Rattle.catalogue.specs.Operations.{Arith, readings, equal, span-of}
+use Rattle.catalogue.specs.Operations.{Arith, readings, equal, falls-in-y, span-of}
 use Rattle.catalogue.specs.Search.{edge}
 
 -- in words: some rank of the range with the property, or none exactly if there is none
@@ -24,11 +23,9 @@ abbrev pub SomeOf : Range → (ℤ → Bool) → Option ℤ → Type 0
 SomeOf r p None = (v : ℤ) → Holds r v → p v ≡ true → ⊥
 SomeOf r p (Some v) = Holds r v × (p v ≡ true)
 
--- what results do toward z as y grows
+-- which side of z results reach as y grows
 abbrev pub toward-z : Kind → Asks
-toward-z Sum = AtLeast
-toward-z Difference = AtMost
-toward-z Peak = AtLeast
+toward-z k = cond (falls-in-y k) AtMost AtLeast
 
 abbrev pub first-y : Kind → Mode → ℤ → ℤ → Question
 first-y k m x z = record { kind = k; modes = only m; operand = Y; other = x; asks = toward-z k; bound = z }

@@ -16,7 +16,7 @@ use Rattle.catalogue.specs.declared.types.Range.{Range}
 use Rattle.catalogue.specs.declared.types.Span.{Span}
 use Rattle.catalogue.specs.declared.types.Triple.{Triple}
 use Rattle.catalogue.specs.Ranges.{unless-empty, meet, extent, all-three}
-use Rattle.catalogue.specs.Operations.{Arith, readings, least-result, greatest-result, span-of, falls-in-y}
+use Rattle.catalogue.specs.Operations.{Arith, readings, span-of, falls-in-y}
 use Rattle.catalogue.specs.Narrowing.{y-for-least, y-for-greatest}
 use Rattle.catalogue.specs.First.{first}
 
@@ -40,7 +40,7 @@ meets AtMost bound r = leZ (r .least) bound
 unfoldable pub passes : Arith → Question → ℤ → Bool
 passes a q v = meets (q .asks) (q .bound) (asked-span a q v)
 
--- whether what passes keeps passing as the rank grows, and not as it falls
+-- whether results fall as the operand asked about grows
 abbrev pub falls-in : Operand → Kind → Bool
 falls-in X k = false
 falls-in Y k = falls-in-y k
@@ -49,6 +49,7 @@ abbrev pub rising : Asks → Bool → Bool
 rising AtLeast b = cond b false true
 rising AtMost b = b
 
+-- whether what passes keeps passing as the rank grows, and not as it falls
 abbrev pub rises : Question → Bool
 rises q = rising (q .asks) (falls-in (q .operand) (q .kind))
 

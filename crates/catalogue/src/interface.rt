@@ -18,7 +18,7 @@ pub trait Catalogue {
 
     law laws: { (c : Self) → Laws (meaning c) };
 
-    /// The range from `LEAST` to `GREATEST`: its contract ties the two constants to the meaning.
+    /// The range from `LEAST` to `GREATEST`: written from the constants, its contract ties them to the meaning.
     fn ends(&self) -> Range
         ensures { λ r. ⌜ r ≡ all-readings (meaning (now (self .entry))) ⌝ };
 

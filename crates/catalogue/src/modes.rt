@@ -1,5 +1,5 @@
 ghost use mathlib.Core.Path.{_≡_};
-ghost use Rattle.catalogue.specs.Modes.{has-mode, only as Only};
+ghost use Rattle.catalogue.specs.Modes.{first-mode, has-mode, only as Only};
 use crate::types::Mode;
 use crate::types::Modes;
 
@@ -13,6 +13,21 @@ impl Modes {
             Mode::Up => self.bits / 2 % 2 == 1,
             Mode::Down => self.bits / 4 % 2 == 1,
             Mode::TowardZero => self.bits / 8 % 2 == 1,
+        }
+    }
+
+    /// The set's first mode, in the order above; toward zero for a set with none.
+    pub fn first(self) -> Mode
+        ensures { λ r. ⌜ r ≡ first-mode self ⌝ }
+    {
+        if self.has(Mode::Nearest) {
+            Mode::Nearest
+        } else if self.has(Mode::Up) {
+            Mode::Up
+        } else if self.has(Mode::Down) {
+            Mode::Down
+        } else {
+            Mode::TowardZero
         }
     }
 

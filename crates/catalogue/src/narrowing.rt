@@ -15,7 +15,7 @@ use crate::types::Triple;
 
 impl Kind {
     /// Whether results fall, and do not rise, as y grows.
-    fn falls_in_y(self) -> bool
+    pub(crate) fn falls_in_y(self) -> bool
         ensures { λ r. ⌜ r ≡ falls-in-y self ⌝ }
     {
         match self {

@@ -14,13 +14,14 @@ use crate::types::Question;
 use crate::types::Range;
 
 impl Kind {
-    /// What results do toward z as y grows.
+    /// Which side of z results reach as y grows.
     fn toward_z(self) -> Asks
         ensures { λ r. ⌜ r ≡ toward-z self ⌝ }
     {
-        match self {
-            Kind::Difference => Asks::AtMost,
-            Kind::Sum | Kind::Peak => Asks::AtLeast,
+        if self.falls_in_y() {
+            Asks::AtMost
+        } else {
+            Asks::AtLeast
         }
     }
 }

@@ -6,7 +6,6 @@ ghost use Rattle.catalogue.specs.Ranges.{Proper};
 ghost use Rattle.catalogue.specs.Search.{asked-span, edge as Edge, moved as Moved, origin as Origin, passes as Passes, rises as Rises};
 use crate::arithmetic::Arithmetic;
 use crate::types::Asks;
-use crate::types::Kind;
 use crate::types::Operand;
 use crate::types::Question;
 use crate::types::Range;
@@ -57,11 +56,13 @@ impl Question {
     pub(crate) fn rises(self) -> bool
         ensures { λ r. ⌜ r ≡ Rises self ⌝ }
     {
-        match (self.asks, self.operand, self.kind) {
-            (Asks::AtLeast, Operand::Y, Kind::Difference) => false,
-            (Asks::AtMost, Operand::Y, Kind::Difference) => true,
-            (Asks::AtLeast, _, _) => true,
-            (Asks::AtMost, _, _) => false,
+        let falls = match self.operand {
+            Operand::X => false,
+            Operand::Y => self.kind.falls_in_y(),
+        };
+        match self.asks {
+            Asks::AtLeast => !falls,
+            Asks::AtMost => falls,
         }
     }
 

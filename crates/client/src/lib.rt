@@ -8,10 +8,11 @@ use catalogue::types::Range;
 use catalogue::types::Refusal;
 use counters::counter::Counter;
 use counters::counter::CounterCatalogue;
+use sheet::lines::CheckedLine;
 use sheet::lines::DrawnLine;
 use sheet::sheet::Sheet;
 
-/// Draws a line, has it checked, and enters it.
+/// Has a drawn line checked, and enters it.
 pub fn tie(sheet: &mut Sheet<Counter>, place: u32, line: DrawnLine) -> Result<(), Refusal>
     ensures answer { λ r. ⌜ numbered r ≡ drawn-asked place (checked line) (now (sheet .entry) .table) ⌝ }
     ensures table { λ _. ⌜ now (sheet .exit) .table ≡ drawn-table counter place (checked line) (now (sheet .entry) .table) ⌝ }

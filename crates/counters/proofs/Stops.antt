@@ -1,7 +1,6 @@
 -- Operations that stop at an end: results move one way, modes have no effect, and patterns are read back.
 use Prim.Native.Nat.{ℕ, _<_, _≤_, _^_, min}
-use mathlib.Core.Bool.{Bool, true, false, cond}
-use mathlib.Core.Path.{_≡_, refl, sym, ap, subst, _∙_}
+use mathlib.Core.Path.{_≡_, sym, ap, subst, _∙_}
 use native.Mathlib.Omega.{arith}
 use lib.Dec.{leb}
 use lib.IntN.{ℤ, pos, negsuc}
@@ -12,13 +11,12 @@ use Rattle.std.proofs.shelf.Signed.{ints, clamps}
 use Rattle.std.proofs.shelf.Tests.{cond-both, cond-true, le-leb, leb-true}
 use Rattle.catalogue.specs.declared.types.Kind.{Kind}
 use Rattle.catalogue.specs.declared.types.Kind.the-variants.{Sum, Difference, Peak}
-use Rattle.catalogue.specs.declared.types.Mode.{Mode}
-use Rattle.catalogue.specs.declared.types.Mode.the-variants.{Nearest, Up, Down, TowardZero}
 use Rattle.catalogue.specs.declared.types.Modes.{Modes}
 use Rattle.catalogue.specs.declared.types.Span.{Span}
-use Rattle.catalogue.specs.Modes.{has-mode, lesser-if, greater-if, least-of, greatest-of}
-use Rattle.catalogue.specs.Operations.{Arith, ArithLaws, In-order, falls-in-y, nearest-reading, span-of}
-use Rattle.catalogue.specs.Meanings.{Laws, Patterns}
+use Rattle.catalogue.specs.Modes.{least-of}
+use Rattle.catalogue.specs.Operations.{ArithLaws, In-order, falls-in-y, nearest-reading, span-of}
+use Rattle.catalogue.specs.Meanings.{Laws}
+use Rattle.catalogue.proofs.Sets.{least-alike, greatest-alike}
 use Rattle.catalogue.proofs.Ranked.{ranked-laws}
 use Rattle.counters.specs.Stopping.{stopped, stopping}
 use Rattle.counters.specs.Counters.{read-to, write-to, counting}
@@ -42,26 +40,6 @@ stopping-laws e h = record {
 }
 
 -- ---- modes without effect
-lesser-same : (b : Bool) (v : ℤ) → lesser-if b v v ≡ v
-lesser-same true v = omega (arith, ints, clamps)
-lesser-same false v = refl
-
-greater-same : (b : Bool) (v : ℤ) → greater-if b v v ≡ v
-greater-same true v = omega (arith, ints, clamps)
-greater-same false v = refl
-
-least-alike : (s : Modes) (v : ℤ) → least-of s (λ m. v) ≡ v
-unfolding least-of
-least-alike s v =
-    ap (λ u. lesser-if (has-mode s TowardZero) (lesser-if (has-mode s Down) u v) v) (lesser-same (has-mode s Up) v)
-    ∙ ap (λ u. lesser-if (has-mode s TowardZero) u v) (lesser-same (has-mode s Down) v) ∙ lesser-same (has-mode s TowardZero) v
-
-greatest-alike : (s : Modes) (v : ℤ) → greatest-of s (λ m. v) ≡ v
-unfolding greatest-of
-greatest-alike s v =
-    ap (λ u. greater-if (has-mode s TowardZero) (greater-if (has-mode s Down) u v) v) (greater-same (has-mode s Up) v)
-    ∙ ap (λ u. greater-if (has-mode s TowardZero) u v) (greater-same (has-mode s Down) v) ∙ greater-same (has-mode s TowardZero) v
-
 abbrev both : ℤ → ℤ → Span
 both l h = record { least = l; greatest = h }
 

@@ -39,7 +39,7 @@ pub impl Arithmetic for Counter as CounterArithmetic {
 pub impl Catalogue for Counter as CounterCatalogue {
     const LEAST: i32 = 0;
 
-    const GREATEST: i32 = 16_777_215;
+    const GREATEST: i32 = END as i32;
 
     ghost meaning = { λ _. Meant };
 

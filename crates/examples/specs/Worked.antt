@@ -2,11 +2,10 @@
 use Prim.Native.Nat.{ℕ, _+_}
 use mathlib.Core.List.{List, [], _∷_}
 use mathlib.Core.Path.{_≡_}
-use lib.IntN.{ℤ, pos}
-use Rattle.std.specs.declared.option.Option.{Option}
-use Rattle.std.specs.declared.option.Option.the-variants.{Some, None}
+use lib.IntN.{pos}
+use Rattle.std.specs.declared.option.Option.the-variants.{Some}
 use Rattle.catalogue.specs.declared.types.Kind.{Kind}
-use Rattle.catalogue.specs.declared.types.Kind.the-variants.{Sum, Difference, Peak}
+use Rattle.catalogue.specs.declared.types.Kind.the-variants.{Sum, Peak}
 use Rattle.catalogue.specs.declared.types.Modes.{Modes}
 use Rattle.catalogue.specs.declared.types.Range.{Range}
 use Rattle.catalogue.specs.declared.types.Triple.{Triple}

@@ -1,5 +1,6 @@
 //! The program `ranges`: a script on standard input, its answers on standard output.
 
+use session::MOST_BYTES;
 use session::answer_input;
 use std::io;
 use std::io::Read;
@@ -8,7 +9,9 @@ use std::io::Write;
 fn main(rt: LibcRuntime) -> io::Result<()> {
     let mut input = Vec::new(rt.alloc());
     // One byte more than the longest script tells that an input is too long.
-    rt.stdin().take(65_537).read_to_end(&mut input)?;
+    rt.stdin()
+        .take(MOST_BYTES as u64 + 1)
+        .read_to_end(&mut input)?;
     let answers = answer_input(rt.alloc(), input.as_slice())?;
     rt.stdout().write_all(answers.as_bytes())
 }

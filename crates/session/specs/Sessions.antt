@@ -2,7 +2,6 @@
 use Prim.Native.Nat.{ℕ}
 use mathlib.Core.Bool.{Bool, cond}
 use mathlib.Core.List.{List, [], _∷_, _++_}
-use lib.Chars.{codes}
 use lib.Dec.{eqb, ltb}
 use lib.ListN.{length, drop}
 use Rattle.std.specs.declared.option.Option.{Option}
@@ -11,9 +10,9 @@ use Rattle.std.specs.declared.result.Result.{Result}
 use Rattle.std.specs.declared.result.Result.the-variants.{Ok, Err}
 use Rattle.catalogue.specs.declared.types.Kind.{Kind}
 use Rattle.catalogue.specs.Meanings.{Meaning}
+use Rattle.binary32.specs.Binary32.{binary}
 use Rattle.counters.specs.Counters.{counter}
 use Rattle.sheet.specs.declared.lines.DrawnLine.{DrawnLine}
-use Rattle.sheet.specs.declared.table.Outcome.{Outcome}
 use Rattle.sheet.specs.declared.table.Table.{Table}
 use Rattle.sheet.specs.Calls.{done, drawn-asked, drawn-table, limit-asked, limit-table, settle-asked, settle-table, is-void, is-settled, shown, in-patterns}
 use Rattle.sheet.specs.Lines.{checked, kind-number}
@@ -24,7 +23,7 @@ use Rattle.commands.specs.declared.Command.{Command}
 use Rattle.commands.specs.declared.Command.the-variants.{Limit, Enter, Settle, Look}
 use Rattle.commands.specs.Commands.{command-of}
 use Rattle.session.specs.declared.Board.{Board}
-use Rattle.session.specs.declared.Board.the-variants.{Counter}
+use Rattle.session.specs.declared.Board.the-variants.{Binary32, Counter}
 use Rattle.answers.specs.Texts.{Reply, ok, refused, stepped, shown as shows, line-of}
 
 -- ---- one command
@@ -38,7 +37,7 @@ ok-or (Err e) = refused e
 abbrev pub drawn : Kind → ℕ → ℕ → ℕ → ℕ → DrawnLine
 drawn k s x y z = record { kind = kind-number k; modes = s; x = x; y = y; z = z }
 
-abbrev pub stepped-or : Result (Outcome × ℕ) ℕ → Reply
+abbrev pub stepped-or : Result (ℕ × ℕ) ℕ → Reply
 stepped-or (Ok p) = stepped (p .0) (p .1)
 stepped-or (Err e) = refused e
 
@@ -72,15 +71,16 @@ abbrev pub answers : Meaning → List (List ℕ) → Table → List ℕ
 answers m [] t = []
 answers m (l ∷ ls) t = line-of (replied m (command-of l) t) ++ answers m ls (table-after m (command-of l) t)
 
--- the first line names the catalogue: C, for counters
+-- the first line names the catalogue: B for binary32, C for counters
 abbrev pub board-of : List ℕ → Option Board
 board-of [] = None
-board-of (b ∷ []) = cond (eqb b 67) (Some Counter) None
+board-of (b ∷ []) = cond (eqb b 66) (Some Binary32) (cond (eqb b 67) (Some Counter) None)
 board-of (b ∷ c ∷ bs) = None
 
 -- the answers to a script over a catalogue; a script that names none is unreadable as a whole
 abbrev pub by-board : Option Board → List (List ℕ) → List ℕ
 by-board None ls = line-of (refused 10)
+by-board (Some Binary32) ls = answers binary ls (new-table binary)
 by-board (Some Counter) ls = answers counter ls (new-table counter)
 
 -- what is written for an input; one that is too long is answered as a whole

@@ -9,12 +9,14 @@ ghost use Rattle.answers.specs.Texts.{line-of, refused, reply-of};
 ghost use Rattle.catalogue.specs.Refusals.{numbered};
 ghost use Rattle.commands.specs.Commands.{command-of};
 ghost use Rattle.session.specs.Sessions.{answers, board-of, by-board, looked, ok-or, replied, stepped-or, table-after, written-for};
-ghost use Rattle.sheet.specs.Calls.{done, drawn-asked, drawn-table, limit-asked, limit-table, settle-asked, settle-table};
+ghost use Rattle.sheet.specs.Calls.{drawn-asked, drawn-table, settle-asked, settle-table};
 ghost use Rattle.sheet.specs.Lines.{checked};
 ghost use Rattle.sheet.specs.Rules.{new-table};
 ghost use Rattle.words.specs.Lines.{lines};
 use answers::Answer;
 use answers::write;
+use binary32::binary32::Binary32;
+use binary32::binary32::Binary32Catalogue;
 use catalogue::interface::Catalogue;
 use catalogue::types::Refusal;
 use commands::Command;
@@ -29,7 +31,7 @@ use std::alloc::Global;
 use words::line;
 
 /// The longest input that is read as a script.
-const MOST_BYTES: usize = 65_536;
+pub const MOST_BYTES: usize = 65_536;
 
 /// Done, or the refusal.
 fn done_or(result: Result<(), Refusal>) -> Answer
@@ -178,6 +180,7 @@ fn unreadable(heap: Global) -> Result<String, AllocError>
 /// The catalogues that a script can name.
 #[derive(Clone, Copy)]
 enum Board {
+    Binary32,
     Counter,
 }
 
@@ -186,6 +189,7 @@ fn board_of(line: &[u8]) -> Option<Board>
     ensures { λ r. ⌜ r ≡ board-of (now (line .entry)) ⌝ }
 {
     match line {
+        [b'B'] => Some(Board::Binary32),
         [b'C'] => Some(Board::Counter),
         _ => None,
     }
@@ -196,6 +200,7 @@ fn answer_over(heap: Global, board: Option<Board>, script: &[u8]) -> Result<Stri
     ensures { λ r. ⌜ made r (λ s. string-bytes s ≡ by-board board (lines (now (script .entry)))) ⌝ }
 {
     match board {
+        Some(Board::Binary32) => answer_anew(Binary32::new(), heap, script),
         Some(Board::Counter) => answer_anew(Counter, heap, script),
         None => unreadable(heap),
     }

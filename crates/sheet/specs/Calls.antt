@@ -1,5 +1,5 @@
 -- What each call of a sheet answers, and the table that it leaves. Refusals go by number.
-use Prim.Native.Nat.{ℕ}
+use Prim.Native.Nat.{ℕ, _≤_}
 use mathlib.Core.Path.{_≡_}
 use mathlib.Core.Bool.{Bool, true, false, cond, not, _||_}
 use lib.Dec.{ltb, eqb}
@@ -22,7 +22,7 @@ use Rattle.sheet.specs.declared.table.State.the-variants.{Settled, Open, Void}
 use Rattle.sheet.specs.declared.table.Table.{Table}
 use Rattle.sheet.specs.Lines.{checked, drawn-of}
 use Rattle.sheet.specs.Places.{has}
-use Rattle.sheet.specs.Rules.{limited, entered, struck, settled, range-at, row-at}
+use Rattle.sheet.specs.Rules.{limited, entered, struck, Settling, settled, at-rest, range-at, row-at}
 
 -- ---- limit: the register (1), the low pattern, then the high (2), their order (3)
 
@@ -80,16 +80,40 @@ strike-table m n t = cond (no-line n t) t (struck m n t)
 
 -- ---- settle: the budget (8)
 
-abbrev pub outcome-of : State → Outcome
-outcome-of Settled = outcome.Settled
-outcome-of Open = outcome.Stopped
-outcome-of Void = outcome.Void
+-- outcomes go by number: 0 settled, 1 stopped, 2 void
+abbrev pub outcome-number : Outcome → ℕ
+outcome-number outcome.Settled = 0
+outcome-number outcome.Stopped = 1
+outcome-number outcome.Void = 2
+
+-- how a settle that leaves a state ended
+abbrev pub ended-in : State → ℕ
+ended-in Settled = 0
+ended-in Open = 1
+ended-in Void = 2
+
+-- how steps ended, and how many were made
+abbrev pub run-answer : Outcome × ℕ → ℕ × ℕ
+run-answer p = (outcome-number (p .0), p .1)
+
+abbrev pub run-asked : Settling → ℕ × ℕ
+run-asked a = (ended-in (a .table .state), a .steps)
+
+abbrev pub settle-answer : Result (Outcome × ℕ) Refusal → Result (ℕ × ℕ) ℕ
+settle-answer (Ok p) = Ok (run-answer p)
+settle-answer (Err e) = Err (number-of e)
+
+-- steps in words: at most the budget; none at rest; and the budget is spent where the table is left open
+pub record Steps (budget : ℕ) (t : Table) (a : Settling) : Type 0 where
+  pub within : a .steps ≤ budget
+  pub at-once : at-rest (t .state) ≡ true → (a .steps ≡ 0) × (a .table ≡ t)
+  pub spent : a .table .state ≡ Open → a .steps ≡ budget
 
 abbrev pub bad-budget : ℕ → Bool
 bad-budget b = eqb b 0 || ltb 65535 b
 
-abbrev pub settle-asked : Meaning → ℕ → Table → Result (Outcome × ℕ) ℕ
-settle-asked m b t = cond (bad-budget b) (Err 8) (Ok (outcome-of (settled m b t .table .state), settled m b t .steps))
+abbrev pub settle-asked : Meaning → ℕ → Table → Result (ℕ × ℕ) ℕ
+settle-asked m b t = cond (bad-budget b) (Err 8) (Ok (run-asked (settled m b t)))
 
 abbrev pub settle-table : Meaning → ℕ → Table → Table
 settle-table m b t = cond (bad-budget b) t (settled m b t .table)

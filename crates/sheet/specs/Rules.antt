@@ -233,13 +233,16 @@ settled m (suc b) t = cond (at-rest (t .state)) record { table = t; steps = 0 } 
 
 -- ---- a new table: no lines, and everything from the least to the greatest reading
 
-abbrev pub new-table : Meaning → Table
-new-table m = record {
-  limits = replicate 32 (all-readings m);
-  ranges = replicate 32 (all-readings m);
+abbrev pub table-of : Range → Table
+table-of all = record {
+  limits = replicate 32 all;
+  ranges = replicate 32 all;
   rows = replicate 64 no-row;
   standing = none;
   naming = replicate 32 none;
   due = none;
   state = Settled;
 }
+
+abbrev pub new-table : Meaning → Table
+new-table m = table-of (all-readings m)

@@ -1,9 +1,9 @@
+ghost use Prim.Native.Nat.{ℕ, _<_};
 ghost use mathlib.Core.Path.{_≡_};
-ghost use Rattle.std.specs.Results.{Cases};
 ghost use Rattle.catalogue.specs.Refusals.{numbered};
-ghost use Rattle.sheet.specs.Calls.{both-read, done, enter-answer, enter-asked, enter-table, in-patterns, is-settled, is-void, limit-asked, limit-table, limits-read, look-answer, named-partner, no-line, outcome-of, partner-asked, pattern-or-none, settle-asked, settle-table, shown, strike-asked, strike-table};
-ghost use Rattle.sheet.specs.Index.{Indexed};
-ghost use Rattle.sheet.specs.Rules.{new-table};
+ghost use Rattle.sheet.specs.Calls.{Steps, bad-budget, both-read, done, ended-in, enter-answer, enter-asked, enter-table, in-patterns, is-settled, limit-asked, limit-table, look-answer, named-partner, no-line, outcome-number, partner-asked, pattern-or-none, run-answer, run-asked, settle-answer, settle-asked, settle-table, shown, strike-asked, strike-table};
+ghost use Rattle.sheet.specs.Places.{has};
+ghost use Rattle.sheet.specs.Rules.{new-table, settled, table-of};
 use crate::lines::CheckedLine;
 use crate::places::Places;
 use crate::sheet::Look;
@@ -18,7 +18,7 @@ use catalogue::types::Refusal;
 
 /// How a settle that leaves a state ended.
 fn outcome(state: State) -> Outcome
-    ensures { λ r. ⌜ r ≡ outcome-of state ⌝ }
+    ensures { λ r. ⌜ outcome-number r ≡ ended-in state ⌝ }
 {
     match state {
         State::Settled => Outcome::Settled,
@@ -27,16 +27,19 @@ fn outcome(state: State) -> Outcome
     }
 }
 
-impl<C: Catalogue> Sheet<C> {
-    /// A sheet with no lines, and limits from the least to the greatest reading.
-    pub fn new(catalogue: C) -> Self
-        ensures table { λ r. ⌜ r .table ≡ new-table (meaning catalogue) ⌝ }
-        ensures catalogue { λ r. ⌜ r .catalogue ≡ catalogue ⌝ }
-        ensures index { λ r. ⌜ Indexed (r .table) ⌝ }
+/// Whether a budget is none that a settle takes.
+fn is_bad_budget(budget: u32) -> bool
+    ensures { λ r. ⌜ r ≡ bad-budget budget ⌝ }
+{
+    budget == 0 || budget > 65535
+}
+
+impl Table {
+    /// A table with no lines, and one range for all limits.
+    fn new(all: Range) -> Table
+        ensures { λ r. ⌜ r ≡ table-of all ⌝ }
     {
-        let all = catalogue.ends();
-        let none = Places::none();
-        let table = Table {
+        Table {
             limits: [all; 32],
             ranges: [all; 32],
             rows: [Row {
@@ -46,11 +49,29 @@ impl<C: Catalogue> Sheet<C> {
                 y: 0,
                 z: 0,
             }; 64],
-            standing: none,
-            naming: [none; 32],
-            due: none,
+            standing: Places { bits: 0 },
+            naming: [Places { bits: 0 }; 32],
+            due: Places { bits: 0 },
             state: State::Settled,
-        };
+        }
+    }
+
+    /// Whether a line stands at a place, among those that there are.
+    fn is_taken(&self, place: u32) -> bool
+        requires { ⌜ place < 64 ⌝ }
+        ensures { λ r. ⌜ r ≡ has (now (self .entry) .standing) place ⌝ }
+    {
+        self.standing.has(place as u8)
+    }
+}
+
+impl<C: Catalogue> Sheet<C> {
+    /// A sheet with no lines, and limits from the least to the greatest reading.
+    pub fn new(catalogue: C) -> Self
+        ensures table { λ r. ⌜ r .table ≡ new-table (meaning catalogue) ⌝ }
+        ensures catalogue { λ r. ⌜ r .catalogue ≡ catalogue ⌝ }
+    {
+        let table = Table::new(catalogue.ends());
         Sheet { catalogue, table }
     }
 
@@ -74,7 +95,6 @@ impl<C: Catalogue> Sheet<C> {
         ensures answer { λ r. ⌜ numbered r ≡ done (limit-asked (meaning (now (self .entry) .catalogue)) register low high) ⌝ }
         ensures table { λ _. ⌜ now (self .exit) .table ≡ limit-table (meaning (now (self .entry) .catalogue)) register (limit-asked (meaning (now (self .entry) .catalogue)) register low high) (now (self .entry) .table) ⌝ }
         ensures catalogue { λ _. ⌜ now (self .exit) .catalogue ≡ now (self .entry) .catalogue ⌝ }
-        ensures index { λ _. ⌜ (Indexed (now (self .entry) .table) → Indexed (now (self .exit) .table)) ⌝ }
     {
         let limits = self.limits(register, low, high)?;
         self.table.limit(&self.catalogue, register as u8, limits);
@@ -86,12 +106,11 @@ impl<C: Catalogue> Sheet<C> {
         ensures answer { λ r. ⌜ enter-answer r ≡ enter-asked place line (now (self .entry) .table) ⌝ }
         ensures table { λ _. ⌜ now (self .exit) .table ≡ enter-table (meaning (now (self .entry) .catalogue)) place line (now (self .entry) .table) ⌝ }
         ensures catalogue { λ _. ⌜ now (self .exit) .catalogue ≡ now (self .entry) .catalogue ⌝ }
-        ensures index { λ _. ⌜ (Indexed (now (self .entry) .table) → Indexed (now (self .exit) .table)) ⌝ }
     {
         if place > 63 {
             return Err((Refusal::NoLineThere, line));
         }
-        if self.table.standing.has(place as u8) {
+        if self.table.is_taken(place) {
             return Err((Refusal::PlaceTaken, line));
         }
         self.table.enter(&self.catalogue, place as u8, line);
@@ -154,18 +173,27 @@ impl<C: Catalogue> Sheet<C> {
         }
     }
 
+    /// Steps until rest or until the budget is spent, whatever the budget.
+    fn run(&mut self, budget: u32) -> (Outcome, u32)
+        ensures answer { λ r. ⌜ run-answer r ≡ run-asked (settled (meaning (now (self .entry) .catalogue)) budget (now (self .entry) .table)) ⌝ }
+        ensures table { λ _. ⌜ now (self .exit) .table ≡ settled (meaning (now (self .entry) .catalogue)) budget (now (self .entry) .table) .table ⌝ }
+        ensures catalogue { λ _. ⌜ now (self .exit) .catalogue ≡ now (self .entry) .catalogue ⌝ }
+    {
+        let steps = self.table.settle(&self.catalogue, budget);
+        (outcome(self.table.state), steps)
+    }
+
     /// Steps until rest or until the budget is spent: how it ended, and how many steps were made.
     pub fn settle(&mut self, budget: u32) -> Result<(Outcome, u32), Refusal>
-        ensures answer { λ r. ⌜ numbered r ≡ settle-asked (meaning (now (self .entry) .catalogue)) budget (now (self .entry) .table) ⌝ }
+        ensures answer { λ r. ⌜ settle-answer r ≡ settle-asked (meaning (now (self .entry) .catalogue)) budget (now (self .entry) .table) ⌝ }
         ensures table { λ _. ⌜ now (self .exit) .table ≡ settle-table (meaning (now (self .entry) .catalogue)) budget (now (self .entry) .table) ⌝ }
         ensures catalogue { λ _. ⌜ now (self .exit) .catalogue ≡ now (self .entry) .catalogue ⌝ }
-        ensures index { λ _. ⌜ (Indexed (now (self .entry) .table) → Indexed (now (self .exit) .table)) ⌝ }
+        ensures words { λ _. ⌜ ((b : ℕ) → Steps b (now (self .entry) .table) (settled (meaning (now (self .entry) .catalogue)) b (now (self .entry) .table))) ⌝ }
     {
-        if budget == 0 || budget > 65535 {
+        if is_bad_budget(budget) {
             return Err(Refusal::BudgetOutOfRange);
         }
-        let steps = self.table.settle(&self.catalogue, budget);
-        Ok((outcome(self.table.state), steps))
+        Ok(self.run(budget))
     }
 
     /// A look at the sheet, which shows nothing while it is void.

@@ -5,7 +5,7 @@ use borrow.Author.Needs.{needs}
 use mir.Syntax.{w32}
 use mir.Val.{SFits}
 use Prim.Native.Nat.{_<_, _≤_, _^_}
-use Rattle.std.specs.declared.option.Option.the-variants.{Some, None}
+use Rattle.std.specs.declared.option.Option.the-variants.{Some}
 use Rattle.std.proofs.shelf.Signed.{toZ-ofZ}
 use Rattle.catalogue.specs.Search.{rises, moved, origin}
 use Rattle.catalogue.specs.Ranges.{extent}
