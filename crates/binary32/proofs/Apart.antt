@@ -22,14 +22,14 @@ units-zero m e = ap units e ∙ units-low 0 (omega arith)
 module _ (big small : ℕ) (far : scale-of small + 39 < scale-of big) where
   tiny : units small < 2 ^ (24 + scale-of small)
   tiny =
-    let l : significand-of small < 2 ^ 24 = omega arith in
-    omega (arith, units-of small, shl-below (significand-of small) 24 (scale-of small) l)
+      let l : significand-of small < 2 ^ 24 = omega arith in
+      omega (arith, units-of small, shl-below (significand-of small) 24 (scale-of small) l)
 
   -- four times the smaller is less than the step below or above the larger
   room : 4 * units small < 2 ^ (scale-of big - 1)
   room =
-    let l : 2 + (24 + scale-of small) ≤ scale-of big - 1 = omega arith in
-    omega (arith, tiny, pow-add 2 2 (24 + scale-of small), pow-mono l)
+      let l : 2 + (24 + scale-of small) ≤ scale-of big - 1 = omega arith in
+      omega (arith, tiny, pow-add 2 2 (24 + scale-of small), pow-mono l)
 
   above : units (suc big) ≡ units big + 2 ^ scale-of big
   above = units-suc big
@@ -53,31 +53,33 @@ module _ (big small : ℕ) (far : scale-of small + 39 < scale-of big) where
   pub far-off : (like : Bool) → (small ≡ 0 → ⊥) → LiesAt (joined like (units big) (units small)) (just-off like big)
   far-off true h = (omega (arith, some h), omega (arith, room, above, up-gap))
   far-off false h =
-    let e : suc (big - 1) ≡ big = omega arith in
-    let n = ap units e in
-    (omega (arith, room, below, down-gap, n), omega (arith, some h, room, below, down-gap, n))
+      let e : suc (big - 1) ≡ big = omega arith in
+      let n = ap units e in
+      (omega (arith, room, below, down-gap, n), omega (arith, some h, room, below, down-gap, n))
 
 -- two magnitudes whose scales are at most 39 apart, in units of the smaller one's last bit
 module _ (big small : ℕ) (order : small ≤ big) (near : scale-of big - scale-of small ≤ 39) where
   abbrev P : ℕ
   P = 2 ^ scale-of small
+
   abbrev high : ℕ
   high = significand-of big * 2 ^ (scale-of big - scale-of small)
+
   abbrev low : ℕ
   low = significand-of small
 
   pub high-top : high < 2 ^ 63
   high-top =
-    let t : significand-of big < 2 ^ 24 = omega arith in
-    let g : 24 + (scale-of big - scale-of small) ≤ 63 = omega arith in
-    lt-of-lt-of-le (shl-below (significand-of big) 24 (scale-of big - scale-of small) t) (pow-mono g)
+      let t : significand-of big < 2 ^ 24 = omega arith in
+      let g : 24 + (scale-of big - scale-of small) ≤ 63 = omega arith in
+      lt-of-lt-of-le (shl-below (significand-of big) 24 (scale-of big - scale-of small) t) (pow-mono g)
 
   big-is : units big ≡ high * P
   big-is =
-    let e : scale-of big ≡ (scale-of big - scale-of small) + scale-of small = omega arith in
-    units-of big
-    ∙ ap (λ (x : ℕ). significand-of big * x) (ap (λ (x : ℕ). 2 ^ x) e ∙ pow-add 2 (scale-of big - scale-of small) (scale-of small))
-    ∙ sym (mul-assoc (significand-of big) (2 ^ (scale-of big - scale-of small)) P)
+      let e : scale-of big ≡ (scale-of big - scale-of small) + scale-of small = omega arith in
+      units-of big
+      ∙ ap (λ (x : ℕ). significand-of big * x) (ap (λ (x : ℕ). 2 ^ x) e ∙ pow-add 2 (scale-of big - scale-of small) (scale-of small))
+      ∙ sym (mul-assoc (significand-of big) (2 ^ (scale-of big - scale-of small)) P)
 
   pub low-le : low ≤ high
   low-le = le-of-mul-le-mul-right {k = P} (omega (arith, big-is, units-of small, units-le small big order)) (pow-pos (scale-of small))
@@ -85,5 +87,5 @@ module _ (big small : ℕ) (order : small ≤ big) (near : scale-of big - scale-
   pub near-sum : (like : Bool) → joined like high low * P ≡ joined like (units big) (units small)
   near-sum true = omega (arith, add-mul high low P, big-is, units-of small)
   near-sum false =
-    let e : high - low + low ≡ high = omega (arith, low-le) in
-    omega (arith, add-mul (high - low) low P, ap (λ (x : ℕ). x * P) e, big-is, units-of small)
+      let e : high - low + low ≡ high = omega (arith, low-le) in
+      omega (arith, add-mul (high - low) low P, ap (λ (x : ℕ). x * P) e, big-is, units-of small)

@@ -29,6 +29,7 @@ units-at k q a b = ⊎-elim low high (cases-lt q (2 ^ 24))
     low h =
         units-by (k * 2 ^ 23 + q) k (q - 2 ^ 23) (omega arith) (omega arith)
         ∙ ap (λ (x : ℕ). x * 2 ^ k) (omega arith)
+
     high : 2 ^ 24 ≤ q → units (k * 2 ^ 23 + q) ≡ q * 2 ^ k
     high h =
         let e : q ≡ 2 ^ 24 = omega arith in
@@ -48,6 +49,7 @@ units-suc m = ⊎-elim low high (cases-lt m (2 ^ 23))
     low h =
         let z : m / 2 ^ 23 - 1 ≡ 0 = omega arith in
         omega (arith, units-small m (omega arith), units-small (suc m) (omega arith), ap (λ (x : ℕ). 2 ^ x) z)
+
     high : 2 ^ 23 ≤ m → units (suc m) ≡ units m + 2 ^ (m / 2 ^ 23 - 1)
     high h =
         let k = m / 2 ^ 23 - 1 in
@@ -63,11 +65,12 @@ units-parts k q a b = ⊎-elim high low (cases-lt 0 k)
   where
     high : 0 < k → units (k * 2 ^ 23 + q) ≡ q * 2 ^ k
     high h = units-at k q (a h) b
+
     low : k ≤ 0 → units (k * 2 ^ 23 + q) ≡ q * 2 ^ k
     low h =
-      let z : k ≡ 0 = omega arith in
-      let m : k * 2 ^ 23 + q ≡ q = omega arith in
-      ap units m ∙ units-small q b ∙ sym (mul-one q) ∙ ap (λ (x : ℕ). q * 2 ^ x) (sym z)
+        let z : k ≡ 0 = omega arith in
+        let m : k * 2 ^ 23 + q ≡ q = omega arith in
+        ap units m ∙ units-small q b ∙ sym (mul-one q) ∙ ap (λ (x : ℕ). q * 2 ^ x) (sym z)
 
 -- n has 24 leading bits above k others, or k is 0 and n has no more than 24
 pub record Placed (n k : ℕ) : Type 0 where
@@ -91,20 +94,22 @@ module _ (n k : ℕ) (p : Placed n k) where
 
   pub placed-next : units (suc (k * 2 ^ 23 + n / 2 ^ k)) ≡ n / 2 ^ k * 2 ^ k + 2 ^ k
   placed-next =
-    let e : suc (k * 2 ^ 23 + n / 2 ^ k) ≡ k * 2 ^ 23 + suc (n / 2 ^ k) = omega arith in
-    ap units e
-    ∙ units-parts k (suc (n / 2 ^ k)) (λ h. omega (arith, q-low h)) (omega (arith, q-top))
-    ∙ omega (arith, add-mul (n / 2 ^ k) 1 (2 ^ k))
+      let e : suc (k * 2 ^ 23 + n / 2 ^ k) ≡ k * 2 ^ 23 + suc (n / 2 ^ k) = omega arith in
+      ap units e
+      ∙ units-parts k (suc (n / 2 ^ k)) (λ h. omega (arith, q-low h)) (omega (arith, q-top))
+      ∙ omega (arith, add-mul (n / 2 ^ k) 1 (2 ^ k))
 
   pub placed-floor : Floor n (k * 2 ^ 23 + n / 2 ^ k)
   placed-floor = record {
     le = omega (arith, placed-units, div-mul-le-self n (2 ^ k));
-    lt = omega (arith, placed-next, lt-div-mul-add {a = n} (pow-pos k)) }
+    lt = omega (arith, placed-next, lt-div-mul-add {a = n} (pow-pos k));
+  }
 
 pub size-placed : (n : ℕ) → Placed n (size n - 24)
 size-placed n = record {
-    under = lt-of-lt-of-le (size-lt n) (pow-mono (omega arith));
-    over = λ h. size-reaches n (23 + (size n - 24)) (omega arith) }
+  under = lt-of-lt-of-le (size-lt n) (pow-mono (omega arith));
+  over = λ h. size-reaches n (23 + (size n - 24)) (omega arith);
+}
 
 pub floor-is : (n : ℕ) → Floor n (floor-of n)
 unfolding floor-of

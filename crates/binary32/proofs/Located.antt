@@ -144,10 +144,10 @@ module _ (a b : ℕ) (le : a ≤ b) (t s : ℕ) (r q : Rest) (c : Lies a t r) (d
 
   pub away-mono : from-zero t r ≤ from-zero s q
   away-mono = ⊎-elim (λ (h : t < s). omega (arith, away-near t r .1, away-near s q .0))
-    (λ (h : s ≤ t). let e : t ≡ s = omega (arith, ranks) in
+      (λ (h : s ≤ t). let e : t ≡ s = omega (arith, ranks) in
       subst (λ (x : ℕ). from-zero t r ≤ from-zero x q) e (away-order t r q (in-order a b t r q le c (same h)))) (cases-lt t s)
 
   pub nearer-mono : to-nearest t r ≤ to-nearest s q
   nearer-mono = ⊎-elim (λ (h : t < s). omega (arith, nearer-near t r .1, nearer-near s q .0))
-    (λ (h : s ≤ t). let e : t ≡ s = omega (arith, ranks) in
+      (λ (h : s ≤ t). let e : t ≡ s = omega (arith, ranks) in
       subst (λ (x : ℕ). to-nearest t r ≤ to-nearest x q) e (nearer-order t r q (in-order a b t r q le c (same h)))) (cases-lt t s)

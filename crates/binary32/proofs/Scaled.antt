@@ -18,23 +18,26 @@ use Rattle.std.proofs.shelf.Bits.{leading-length, shl-below, shr-below}
 module _ (s k d : ℕ) (top : s < 2 ^ (24 + d)) (bot : 2 ^ (23 + d) ≤ s) (some : 0 < d) where
   abbrev P : ℕ
   P = 2 ^ k
+
   abbrev q : ℕ
   q = s / 2 ^ d
+
   abbrev l : ℕ
   l = s - s / 2 ^ d * 2 ^ d
+
   abbrev h : ℕ
   h = 2 ^ (d - 1)
 
   gap : 2 ^ (k + d) ≡ h * P + h * P
   gap =
-    let e : suc (d - 1) ≡ d = omega arith in
-    pow-add 2 k d ∙ mul-comm P (2 ^ d) ∙ ap (λ (x : ℕ). x * P) (sym (ap (λ (x : ℕ). 2 ^ x) e) ∙ two-pow-succ (d - 1)) ∙ add-mul h h P
+      let e : suc (d - 1) ≡ d = omega arith in
+      pow-add 2 k d ∙ mul-comm P (2 ^ d) ∙ ap (λ (x : ℕ). x * P) (sym (ap (λ (x : ℕ). 2 ^ x) e) ∙ two-pow-succ (d - 1)) ∙ add-mul h h P
 
   parts : s * P ≡ q * 2 ^ (k + d) + l * P
   parts =
-    let e : s ≡ q * 2 ^ d + l = omega (arith, div-add-mod' s (2 ^ d)) in
-    ap (λ (x : ℕ). x * P) e ∙ add-mul (q * 2 ^ d) l P
-    ∙ ap (λ (x : ℕ). x + l * P) (mul-assoc q (2 ^ d) P ∙ ap (λ (x : ℕ). q * x) (mul-comm (2 ^ d) P ∙ sym (pow-add 2 k d)))
+      let e : s ≡ q * 2 ^ d + l = omega (arith, div-add-mod' s (2 ^ d)) in
+      ap (λ (x : ℕ). x * P) e ∙ add-mul (q * 2 ^ d) l P
+      ∙ ap (λ (x : ℕ). x + l * P) (mul-assoc q (2 ^ d) P ∙ ap (λ (x : ℕ). q * x) (mul-comm (2 ^ d) P ∙ sym (pow-add 2 k d)))
 
   same : s * P / 2 ^ (k + d) ≡ q
   same = ap (λ (x : ℕ). s * P / x) (pow-add 2 k d ∙ mul-comm P (2 ^ d)) ∙ mul-div-mul-right s (2 ^ d) (pow-pos k)
@@ -42,11 +45,12 @@ module _ (s k d : ℕ) (top : s < 2 ^ (24 + d)) (bot : 2 ^ (23 + d) ≤ s) (some
   place : Placed (s * P) (k + d)
   place = record {
     under =
-      let e : 24 + (k + d) ≡ (24 + d) + k = omega arith in
-      subst (λ (x : ℕ). s * P < x) (sym (ap (λ (x : ℕ). 2 ^ x) e ∙ pow-add 2 (24 + d) k)) (mul-lt-mul-of-pos-right top (pow-pos k));
+        let e : 24 + (k + d) ≡ (24 + d) + k = omega arith in
+        subst (λ (x : ℕ). s * P < x) (sym (ap (λ (x : ℕ). 2 ^ x) e ∙ pow-add 2 (24 + d) k)) (mul-lt-mul-of-pos-right top (pow-pos k));
     over = λ _.
-      let e : 23 + (k + d) ≡ (23 + d) + k = omega arith in
-      subst (λ (x : ℕ). x ≤ s * P) (sym (ap (λ (x : ℕ). 2 ^ x) e ∙ pow-add 2 (23 + d) k)) (mul-le-mul-right P bot) }
+        let e : 23 + (k + d) ≡ (23 + d) + k = omega arith in
+        subst (λ (x : ℕ). x ≤ s * P) (sym (ap (λ (x : ℕ). 2 ^ x) e ∙ pow-add 2 (23 + d) k)) (mul-le-mul-right P bot);
+  }
 
   abbrev t : ℕ
   t = (k + d) * 2 ^ 23 + q
@@ -59,16 +63,16 @@ module _ (s k d : ℕ) (top : s < 2 ^ (24 + d)) (bot : 2 ^ (23 + d) ≤ s) (some
 
   left : l < h + h
   left =
-    let e : suc (d - 1) ≡ d = omega arith in
-    omega (arith, div-add-mod' s (2 ^ d), mod-lt s (pow-pos d), two-pow-succ (d - 1), ap (λ (x : ℕ). 2 ^ x) e)
+      let e : suc (d - 1) ≡ d = omega arith in
+      omega (arith, div-add-mod' s (2 ^ d), mod-lt s (pow-pos d), two-pow-succ (d - 1), ap (λ (x : ℕ). 2 ^ x) e)
 
   pub scaled-lies : (r : Rest) → Drops l h r → Lies (s * P) t r
   scaled-lies Exact e = omega (arith, parts, at, ap (λ (x : ℕ). x * P) e ∙ zero-mul P)
   scaled-lies BelowMiddle e =
-    (omega (arith, parts, at, mul-pos (e .0) (pow-pos k)), omega (arith, parts, at, next, gap, mul-lt-mul-of-pos-right (e .1) (pow-pos k)))
+      (omega (arith, parts, at, mul-pos (e .0) (pow-pos k)), omega (arith, parts, at, next, gap, mul-lt-mul-of-pos-right (e .1) (pow-pos k)))
   scaled-lies Middle e = omega (arith, parts, at, next, gap, ap (λ (x : ℕ). x * P) e)
   scaled-lies AboveMiddle e =
-    (omega (arith, parts, at, next, gap, mul-lt-mul-of-pos-right e (pow-pos k)), omega (arith, parts, at, next, gap, add-mul h h P, mul-lt-mul-of-pos-right left (pow-pos k)))
+      (omega (arith, parts, at, next, gap, mul-lt-mul-of-pos-right e (pow-pos k)), omega (arith, parts, at, next, gap, add-mul h h P, mul-lt-mul-of-pos-right left (pow-pos k)))
 
 -- s has w bits, by the machine's count of leading zeros
 pub record Wide (s w : ℕ) : Type 0 where
@@ -84,11 +88,12 @@ wide s f =
     let p = leading-length 64 s f in
     let e : 64 - leadingZeros 64 s ≡ p .0 = omega (arith, p .1) in
     let ok : Wide s (p .0) = record {
-        under = p .2;
-        over = λ h. ⊎-elim (λ (z : 0 < p .0).
-            let g : suc (p .0 - 1) ≡ p .0 = omega arith in
-            omega (arith, p .3, two-pow-succ (p .0 - 1), ap (λ (x : ℕ). 2 ^ x) g)) (λ z. let g : p .0 ≡ 0 = omega arith in omega (arith, p .2, ap (λ (x : ℕ). 2 ^ x) g)) (cases-lt 0 (p .0));
-        most = omega (arith, p .1) } in
+      under = p .2;
+      over = λ h. ⊎-elim (λ (z : 0 < p .0).
+          let g : suc (p .0 - 1) ≡ p .0 = omega arith in
+          omega (arith, p .3, two-pow-succ (p .0 - 1), ap (λ (x : ℕ). 2 ^ x) g)) (λ z. let g : p .0 ≡ 0 = omega arith in omega (arith, p .2, ap (λ (x : ℕ). 2 ^ x) g)) (cases-lt 0 (p .0));
+      most = omega (arith, p .1);
+    } in
     subst (λ (x : ℕ). Wide s x) (sym e) ok
 
 -- a sum of at most 24 bits moves up, by the scale at most
@@ -98,13 +103,13 @@ module _ (s k w u : ℕ) (f : Wide s w) (pos : 0 < s) (few : w ≤ 24) (ku : k <
 
   up-bot : 0 < k - u → 2 ^ 23 ≤ s * 2 ^ u
   up-bot h =
-    let e : (w - 1) + u ≡ 23 = omega (arith, wide-some f pos) in
-    omega (arith, pow-add 2 (w - 1) u, ap (λ (x : ℕ). 2 ^ x) e, mul-le-mul-right (2 ^ u) (f .over pos))
+      let e : (w - 1) + u ≡ 23 = omega (arith, wide-some f pos) in
+      omega (arith, pow-add 2 (w - 1) u, ap (λ (x : ℕ). 2 ^ x) e, mul-le-mul-right (2 ^ u) (f .over pos))
 
   pub up-exact : s * 2 ^ k ≡ units ((k - u) * 2 ^ 23 + s * 2 ^ u)
   up-exact =
-    let b : u + (k - u) ≡ k = omega arith in
-    sym (units-parts (k - u) (s * 2 ^ u) up-bot (omega (arith, up-top)) ∙ mul-assoc s (2 ^ u) (2 ^ (k - u)) ∙ ap (λ (x : ℕ). s * x) (sym (pow-add 2 u (k - u)) ∙ ap (λ (x : ℕ). 2 ^ x) b))
+      let b : u + (k - u) ≡ k = omega arith in
+      sym (units-parts (k - u) (s * 2 ^ u) up-bot (omega (arith, up-top)) ∙ mul-assoc s (2 ^ u) (2 ^ (k - u)) ∙ ap (λ (x : ℕ). s * x) (sym (pow-add 2 u (k - u)) ∙ ap (λ (x : ℕ). 2 ^ x) b))
 
 -- a longer sum moves down by the bits past 24
 module _ (s k w : ℕ) (f : Wide s w) (pos : 0 < s) (many : 24 < w) (ku : k < 254) where

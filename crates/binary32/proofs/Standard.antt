@@ -31,7 +31,8 @@ toward-is n t r c =
     let f = lies-floor n t r c in record {
       reading = omega arith;
       below = omega (arith, f .le, units-le (toward-zero t r) t (omega arith));
-      most = λ m h l. omega (arith, floor-iff n t m f l) }
+      most = λ m h l. omega (arith, floor-iff n t m f l);
+    }
 
 pub record AwayIs (n v : ℕ) : Type 0 where
   pub reading : v < beyond
@@ -63,10 +64,10 @@ away-is n t r c =
     let p = ceil-is n t r c in
     let v = p .0 in
     ⊎-elim (λ (h : v < beyond).
-        let e : from-zero t r ≡ v = omega (arith, p .2) in
-        inl (subst (λ (x : ℕ). AwayIs n x) (sym e) (record { reading = h; above = p .1 .above; least = p .1 .least })))
-      (λ (h : beyond ≤ v). inr (omega (arith, p .2), λ m k. ⊎-elim (λ (l : units m < n). l) (λ (l : n ≤ units m). absurd (omega (arith, p .1 .least m l))) (cases-lt (units m) n)))
-      (cases-lt v beyond)
+    let e : from-zero t r ≡ v = omega (arith, p .2) in
+    inl (subst (λ (x : ℕ). AwayIs n x) (sym e) (record { reading = h; above = p .1 .above; least = p .1 .least })))
+    (λ (h : beyond ≤ v). inr (omega (arith, p .2), λ m k. ⊎-elim (λ (l : units m < n). l) (λ (l : n ≤ units m). absurd (omega (arith, p .1 .least m l))) (cases-lt (units m) n)))
+    (cases-lt v beyond)
 
 -- ---- whole numbers
 
@@ -90,7 +91,8 @@ down-pos n t r c =
     let p = toward-is n t r c in inl (record {
       reading = reading-pos _ (p .reading);
       below = (let h = p .below in omega (arith, ints));
-      greatest = go })
+      greatest = go;
+    })
   where
     go : (s : ℤ) → Reading s → value s ≤ℤ pos n → s ≤ℤ pos (toward-zero t r)
     go (pos m) a b = (let h = toward-is n t r c .most m (reading-abs (pos m) a) (omega (arith, ints)) in omega (arith, ints))
@@ -101,13 +103,15 @@ up-pos n t r c = ⊎-elim
     (λ (p : AwayIs n (from-zero t r)). inl (record {
       reading = reading-pos _ (p .reading);
       above = (let h = p .above in omega (arith, ints));
-      least = some p }))
+      least = some p;
+    }))
     (λ (p : (from-zero t r ≡ beyond) × ((m : ℕ) → m < beyond → units m < n)). inr (ap pos (p .0), none (p .1)))
     (away-is n t r c)
   where
     some : AwayIs n (from-zero t r) → (s : ℤ) → Reading s → pos n ≤ℤ value s → pos (from-zero t r) ≤ℤ s
     some p (pos m) a b = (let h = p .least m (omega (arith, ints)) in omega (arith, ints))
     some p (negsuc m) a b = absurd (let h = units-lt 0 (suc m) (omega arith) in omega (arith, ints))
+
     none : ((m : ℕ) → m < beyond → units m < n) → (s : ℤ) → Reading s → value s <ℤ pos n
     none p (pos m) a = (let h = p m (reading-abs (pos m) a) in omega (arith, ints))
     none p (negsuc m) a = (let h = p 0 (omega arith) in omega (arith, ints))
@@ -119,7 +123,8 @@ up-neg n t r c =
     let v = value-minus (toward-zero t r) in inl (record {
       reading = reading-minus _ (p .reading);
       above = omega (arith, ints, v);
-      least = go })
+      least = go;
+    })
   where
     go : (s : ℤ) → Reading s → negsuc n ≤ℤ value s → negℤ (pos (toward-zero t r)) ≤ℤ s
     go (pos m) a b = omega (arith, ints)
@@ -128,17 +133,19 @@ up-neg n t r c =
 down-neg : (n t : ℕ) (r : Rest) → Lies (suc n) t r → RoundsDown (negsuc n) (negℤ (pos (from-zero t r)))
 down-neg n t r c = ⊎-elim
     (λ (p : AwayIs (suc n) (from-zero t r)).
-      let h = p .above in
-      let v = value-minus (from-zero t r) in inl (record {
+    let h = p .above in
+    let v = value-minus (from-zero t r) in inl (record {
       reading = reading-minus _ (p .reading);
       below = omega (arith, ints, v);
-      greatest = some p }))
+      greatest = some p;
+    }))
     (λ (p : (from-zero t r ≡ beyond) × ((m : ℕ) → m < beyond → units m < suc n)). inr (ap (λ (x : ℕ). negℤ (pos x)) (p .0), none (p .1)))
     (away-is (suc n) t r c)
   where
     some : AwayIs (suc n) (from-zero t r) → (s : ℤ) → Reading s → value s ≤ℤ negsuc n → s ≤ℤ negℤ (pos (from-zero t r))
     some p (pos m) a b = absurd (omega (arith, ints))
     some p (negsuc m) a b = (let h = p .least (suc m) (omega (arith, ints)) in omega (arith, ints))
+
     none : ((m : ℕ) → m < beyond → units m < suc n) → (s : ℤ) → Reading s → negsuc n <ℤ value s
     none p (pos m) a = omega (arith, ints)
     none p (negsuc m) a = (let h = p (suc m) (reading-abs (negsuc m) a) in omega (arith, ints))
@@ -157,19 +164,21 @@ sides : (P : ℕ → Type 0) (t : ℕ) → ((m : ℕ) → m < t → units m < un
 sides P t a b c d m =
     ⊎-elim (λ (h : m < t). a m h (units-lt m t h))
     (λ (h : t ≤ m). ⊎-elim (λ (k : suc t < m). d m k (units-lt (suc t) m k))
-      (λ (k : m ≤ suc t). ⊎-elim (λ (l : t < m). let e : suc t ≡ m = omega arith in subst P e c) (λ (l : m ≤ t). let e : t ≡ m = omega arith in subst P e b) (cases-lt t m))
-      (cases-lt (suc t) m))
+    (λ (k : m ≤ suc t). ⊎-elim (λ (l : t < m). let e : suc t ≡ m = omega arith in subst P e c) (λ (l : m ≤ t). let e : t ≡ m = omega arith in subst P e b) (cases-lt t m))
+    (cases-lt (suc t) m))
     (cases-lt m t)
 
 near-low : (n t : ℕ) → units t ≤ n → 2 * n < units t + units (suc t) → NearIs n t
 near-low n t h k = record {
-    nearest = sides (λ m. gap n (units t) ≤ gap n (units m)) t (λ m a b. omega arith) (omega arith) (omega arith) (λ m a b. omega arith);
-    even = sides (λ m. (m ≡ t → ⊥) → gap n (units t) ≡ gap n (units m) → t % 2 ≡ 0) t (λ m a b c d. absurd (omega arith)) (λ c d. absurd (c refl)) (λ c d. absurd (omega arith)) (λ m a b c d. absurd (omega arith)) }
+  nearest = sides (λ m. gap n (units t) ≤ gap n (units m)) t (λ m a b. omega arith) (omega arith) (omega arith) (λ m a b. omega arith);
+  even = sides (λ m. (m ≡ t → ⊥) → gap n (units t) ≡ gap n (units m) → t % 2 ≡ 0) t (λ m a b c d. absurd (omega arith)) (λ c d. absurd (c refl)) (λ c d. absurd (omega arith)) (λ m a b c d. absurd (omega arith));
+}
 
 near-high : (n t : ℕ) → n < units (suc t) → units t + units (suc t) < 2 * n → NearIs n (suc t)
 near-high n t h k = record {
-    nearest = sides (λ m. gap n (units (suc t)) ≤ gap n (units m)) t (λ m a b. omega arith) (omega arith) (omega arith) (λ m a b. omega arith);
-    even = sides (λ m. (m ≡ suc t → ⊥) → gap n (units (suc t)) ≡ gap n (units m) → suc t % 2 ≡ 0) t (λ m a b c d. absurd (omega arith)) (λ c d. absurd (omega arith)) (λ c d. absurd (c refl)) (λ m a b c d. absurd (omega arith)) }
+  nearest = sides (λ m. gap n (units (suc t)) ≤ gap n (units m)) t (λ m a b. omega arith) (omega arith) (omega arith) (λ m a b. omega arith);
+  even = sides (λ m. (m ≡ suc t → ⊥) → gap n (units (suc t)) ≡ gap n (units m) → suc t % 2 ≡ 0) t (λ m a b c d. absurd (omega arith)) (λ c d. absurd (omega arith)) (λ c d. absurd (c refl)) (λ m a b c d. absurd (omega arith));
+}
 
 -- at a tie either neighbour is nearest, and the even one is meant
 near-half : (n t v : ℕ) → 2 * n ≡ units t + units (suc t) → v % 2 ≡ 0 → (v ≡ t) ⊎ (v ≡ suc t) → NearIs n v
@@ -177,8 +186,9 @@ near-half n t v e z w =
     let s = step t in
     let g : gap n (units v) ≡ n - units t = ⊎-elim (λ (p : v ≡ t). omega (arith, ap units p)) (λ (p : v ≡ suc t). omega (arith, ap units p)) w in
     record {
-    nearest = sides (λ m. gap n (units v) ≤ gap n (units m)) t (λ m a b. omega arith) (omega arith) (omega arith) (λ m a b. omega arith);
-    even = λ m c d. z }
+      nearest = sides (λ m. gap n (units v) ≤ gap n (units m)) t (λ m a b. omega arith) (omega arith) (omega arith) (λ m a b. omega arith);
+      even = λ m c d. z;
+    }
 
 abbrev near-to : ℕ → Rest → ℕ
 near-to t Exact = t
@@ -252,6 +262,7 @@ nearest-pos n v b p = record { reading = reading-pos v b; nearest = close; even 
     close : (s : ℤ) → Reading s → distance (pos n) (pos v) ≤ distance (pos n) s
     close (pos m) a = omega (arith, dist-pos n (units v), dist-pos n (units m), p .nearest m)
     close (negsuc m) a = omega (arith, dist-pos n (units v), dist-neg n (units (suc m)), p .nearest 0, units-low 0 (omega arith))
+
     tie : (s : ℤ) → Reading s → s ≢ pos v → distance (pos n) (pos v) ≡ distance (pos n) s → v % 2 ≡ 0
     tie (pos m) a ne e = p .even m (λ q. ne (ap pos q)) (sym (dist-pos n (units v)) ∙ e ∙ dist-pos n (units m))
     tie (negsuc m) a ne e = absurd (omega (arith, e, dist-pos n (units v), dist-neg n (units (suc m)), p .nearest 0, units-low 0 (omega arith), units-lt 0 (suc m) (omega arith)))
@@ -270,16 +281,17 @@ distance-back e s = sym (ap (λ (x : ℤ). distance (negℤ e) x) (negℤ-negℤ
 
 nearest-flip : (e r : ℤ) → NearestToEven e r → NearestToEven (negℤ e) (negℤ r)
 nearest-flip e r p = record {
-    reading = reading-neg r (p .reading);
-    nearest = λ s a. omega (arith, distance-flip e r, distance-back e s, p .nearest (negℤ s) (reading-neg s a));
-    even = λ s a ne q. ap (λ (x : ℕ). x % 2) (abs-neg r) ∙ p .even (negℤ s) (reading-neg s a) (λ g. ne (sym (negℤ-negℤ s) ∙ ap negℤ g)) (sym (distance-flip e r) ∙ q ∙ distance-back e s) }
+  reading = reading-neg r (p .reading);
+  nearest = λ s a. omega (arith, distance-flip e r, distance-back e s, p .nearest (negℤ s) (reading-neg s a));
+  even = λ s a ne q. ap (λ (x : ℕ). x % 2) (abs-neg r) ∙ p .even (negℤ s) (reading-neg s a) (λ g. ne (sym (negℤ-negℤ s) ∙ ap negℤ g)) (sym (distance-flip e r) ∙ q ∙ distance-back e s);
+}
 
 module _ (n t : ℕ) (r : Rest) (c : Lies n t r) where
   nearest-in : n < overflow → NearestToEven (pos n) (pos (to-nearest t r))
   nearest-in l =
-    let i = inside n t r c l in
-    let e : near-to t r ≡ to-nearest t r = omega (arith, nearer-min t r) in
-    subst (λ (x : ℕ). NearestToEven (pos n) (pos x)) e (nearest-pos n (near-to t r) i (near-is n t r c))
+      let i = inside n t r c l in
+      let e : near-to t r ≡ to-nearest t r = omega (arith, nearer-min t r) in
+      subst (λ (x : ℕ). NearestToEven (pos n) (pos x)) e (nearest-pos n (near-to t r) i (near-is n t r c))
 
   nearest-out : overflow ≤ n → to-nearest t r ≡ beyond
   nearest-out l = omega (arith, nearer-min t r, outside n t r c l)

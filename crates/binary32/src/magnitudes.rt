@@ -67,7 +67,10 @@ fn locate_scaled(sum: u64, scale: u32) -> Location
     ensures { λ r. ⌜ LiesAt (sum * 2 ^ scale) r ⌝ }
 {
     if sum == 0 {
-        return Location { rank: 0, rest: Rest::Exact };
+        return Location {
+            rank: 0,
+            rest: Rest::Exact,
+        };
     }
     let width = 64 - sum.leading_zeros();
     if width <= 24 {

@@ -12,6 +12,7 @@ pub(crate) const BEYOND: u32 = 2_139_095_040;
 
 /// The least and the greatest reading.
 pub(crate) const LEAST: i32 = -2_139_095_039;
+
 pub(crate) const GREATEST: i32 = 2_139_095_039;
 
 /// The reading nearest to a rank.

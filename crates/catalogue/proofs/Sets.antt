@@ -145,7 +145,7 @@ module _ (s : Modes) (some : 0 < s .bits) (few : s .bits < 16) where
           let j0 : s .bits / 4 % 2 ≡ 0 = omega (arith, eqb-false (s .bits / 4 % 2) 1 j) in
           let k0 : s .bits / 8 % 2 ≡ 0 = omega (arith, eqb-false (s .bits / 8 % 2) 1 k) in
           absurd (no-bits (s .bits) some few h0 i0 j0 k0))
-        (cases-bool (has-mode s TowardZero))
+          (cases-bool (has-mode s TowardZero))
 
   module _ (f : Mode → ℤ) where
     abbrev Reached : ℤ → Type 0
@@ -154,13 +154,13 @@ module _ (s : Modes) (some : 0 < s .bits) (few : s .bits < 16) where
     lesser-reached : (v : ℤ) (m : Mode) → Reached v → Reached (lesser-if (has-mode s m) v (f m))
     lesser-reached v m r =
         ⊎-elim (λ (h : has-mode s m ≡ true). rw (cond-true (has-mode s m) (minZ v (f m)) v h)
-          (by-ltZ (f m) v (λ (l : f m <ℤ v). (m, h, omega (arith, ints, clamps))) (λ (l : v ≤ℤ f m). let e : minZ v (f m) ≡ v = omega (arith, ints, clamps) in (r .0, r .1, e ∙ r .2))))
+        (by-ltZ (f m) v (λ (l : f m <ℤ v). (m, h, omega (arith, ints, clamps))) (λ (l : v ≤ℤ f m). let e : minZ v (f m) ≡ v = omega (arith, ints, clamps) in (r .0, r .1, e ∙ r .2))))
         (λ (h : has-mode s m ≡ false). rw (cond-false (has-mode s m) (minZ v (f m)) v h) r) (cases-bool (has-mode s m))
 
     greater-reached : (v : ℤ) (m : Mode) → Reached v → Reached (greater-if (has-mode s m) v (f m))
     greater-reached v m r =
         ⊎-elim (λ (h : has-mode s m ≡ true). rw (cond-true (has-mode s m) (maxZ v (f m)) v h)
-          (by-ltZ v (f m) (λ (l : v <ℤ f m). (m, h, omega (arith, ints, clamps))) (λ (l : f m ≤ℤ v). let e : maxZ v (f m) ≡ v = omega (arith, ints, clamps) in (r .0, r .1, e ∙ r .2))))
+        (by-ltZ v (f m) (λ (l : v <ℤ f m). (m, h, omega (arith, ints, clamps))) (λ (l : f m ≤ℤ v). let e : maxZ v (f m) ≡ v = omega (arith, ints, clamps) in (r .0, r .1, e ∙ r .2))))
         (λ (h : has-mode s m ≡ false). rw (cond-false (has-mode s m) (maxZ v (f m)) v h) r) (cases-bool (has-mode s m))
 
     pub least-reached : (m : Mode) × (has-mode s m ≡ true) × (least-of s f ≡ f m)

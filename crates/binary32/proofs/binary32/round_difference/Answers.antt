@@ -25,7 +25,7 @@ returns c =
     let l = simp toZ-ofZ at (c .exact-difference .ensures) in
     let m = c .args .mode in
     let e =
-        toZ-ofZ w32 (c .round .result) r ∙ c .round .ensures ∙ rank-rounds _ _ l m
-        ∙ ap (λ (u : ℤ). rounded m (value u +ℤ negℤ (value (c .nearest-2 .result)))) a
-        ∙ ap (λ (u : ℤ). rounded m (value (nearest-reading binary32 (c .args .x)) +ℤ negℤ (value u))) b in
+    toZ-ofZ w32 (c .round .result) r ∙ c .round .ensures ∙ rank-rounds _ _ l m
+    ∙ ap (λ (u : ℤ). rounded m (value u +ℤ negℤ (value (c .nearest-2 .result)))) a
+    ∙ ap (λ (u : ℤ). rounded m (value (nearest-reading binary32 (c .args .x)) +ℤ negℤ (value u))) b in
     record { value = e; standard = subst (Rounds m _) (sym e) (rounds m _) }

@@ -31,4 +31,4 @@ returns c =
     let p = simp toZ-ofZ at (c .ordered-pair .ensures .pair) in
     subst (λ (e : ℤ). Locates e (record { negative = ltZ (toZ w32 (ofZ w32 (c .ordered-pair .result .larger))) (pos 0); location = c .locate .result })) (pair-sum _ _ _ _ p)
     (sum-located _ _ _ _ _ _ _ (toZ-ofZ w32 (c .ordered-pair .result .larger) l) (toZ-ofZ w32 (c .ordered-pair .result .smaller) s)
-      (c .unsigned-abs .ensures .value) (c .unsigned-abs-2 .ensures .value) (c .ordered-pair .ensures .order) (c .locate .ensures))
+    (c .unsigned-abs .ensures .value) (c .unsigned-abs-2 .ensures .value) (c .ordered-pair .ensures .order) (c .locate .ensures))

@@ -18,11 +18,11 @@ returns c =
     let first = toZ-ofZ w32 (c .round-rank .result) r ∙ c .round-rank .ensures ∙ ap f (c .first .ensures) in
     record {
       least =
-        c .widen .ensures .least ∙ ap (λ (v : ℤ). lesser-if (has-mode s TowardZero) v (f TowardZero))
-        (c .widen-down .ensures .least ∙ ap (λ (v : ℤ). lesser-if (has-mode s Down) v (f Down))
-        (c .widen-up .ensures .least ∙ ap (λ (v : ℤ). lesser-if (has-mode s Up) v (f Up)) first));
+          c .widen .ensures .least ∙ ap (λ (v : ℤ). lesser-if (has-mode s TowardZero) v (f TowardZero))
+          (c .widen-down .ensures .least ∙ ap (λ (v : ℤ). lesser-if (has-mode s Down) v (f Down))
+          (c .widen-up .ensures .least ∙ ap (λ (v : ℤ). lesser-if (has-mode s Up) v (f Up)) first));
       greatest =
-        c .widen .ensures .greatest ∙ ap (λ (v : ℤ). greater-if (has-mode s TowardZero) v (f TowardZero))
-        (c .widen-down .ensures .greatest ∙ ap (λ (v : ℤ). greater-if (has-mode s Down) v (f Down))
-        (c .widen-up .ensures .greatest ∙ ap (λ (v : ℤ). greater-if (has-mode s Up) v (f Up)) first));
+          c .widen .ensures .greatest ∙ ap (λ (v : ℤ). greater-if (has-mode s TowardZero) v (f TowardZero))
+          (c .widen-down .ensures .greatest ∙ ap (λ (v : ℤ). greater-if (has-mode s Down) v (f Down))
+          (c .widen-up .ensures .greatest ∙ ap (λ (v : ℤ). greater-if (has-mode s Up) v (f Up)) first));
     }
