@@ -285,7 +285,7 @@ class Rounding(unittest.TestCase):
 
     def test_published_vectors(self):
         count = 0
-        for line in read("tools", "vectors", "binary32-add-sub.txt").decode().split("\n"):
+        for line in read("crates", "vectors", "data", "binary32-add-sub.txt").decode().split("\n"):
             if line:
                 operation, x, y, *expected, exactness = line.split(" ")
                 kind = {"add": SUM, "sub": DIFFERENCE}[operation]

@@ -98,7 +98,10 @@ fn agrees(kind: Kind, mode: Mode, x: u32, y: u32, result: u32) -> bool
     let Some(result) = expected(result) else {
         return false;
     };
-    equal(Binary32::new().span(kind, Modes::only(mode), x, y).least, result)
+    equal(
+        Binary32::new().span(kind, Modes::only(mode), x, y).least,
+        result,
+    )
 }
 
 /// The pattern behind a space, and the rest behind it.
@@ -141,12 +144,27 @@ fn read_case(line: &[u8]) -> Option<Case> {
     let (down, rest) = next_pattern(rest)?;
     let (toward_zero, rest) = next_pattern(rest)?;
     let exact = exactness(rest)?;
-    Some(Case { kind, x, y, nearest, up, down, toward_zero, exact })
+    Some(Case {
+        kind,
+        x,
+        y,
+        nearest,
+        up,
+        down,
+        toward_zero,
+        exact,
+    })
 }
 
 impl Tally {
     fn none() -> Tally {
-        Tally { cases: 0, nearest: 0, up: 0, down: 0, toward_zero: 0 }
+        Tally {
+            cases: 0,
+            nearest: 0,
+            up: 0,
+            down: 0,
+            toward_zero: 0,
+        }
     }
 
     /// Counts a case; false where it does not agree under every mode.
@@ -154,7 +172,13 @@ impl Tally {
         let nearest = agrees(case.kind, Mode::Nearest, case.x, case.y, case.nearest);
         let up = agrees(case.kind, Mode::Up, case.x, case.y, case.up);
         let down = agrees(case.kind, Mode::Down, case.x, case.y, case.down);
-        let toward_zero = agrees(case.kind, Mode::TowardZero, case.x, case.y, case.toward_zero);
+        let toward_zero = agrees(
+            case.kind,
+            Mode::TowardZero,
+            case.x,
+            case.y,
+            case.toward_zero,
+        );
         self.cases = self.cases.saturating_add(1);
         self.nearest = self.nearest.saturating_add(u32::from(nearest));
         self.up = self.up.saturating_add(u32::from(up));
@@ -169,7 +193,10 @@ impl Tally {
         let up = self.up;
         let down = self.down;
         let toward_zero = self.toward_zero;
-        println!(rt, "{class}: {cases} cases; nearest {nearest}, up {up}, down {down}, toward zero {toward_zero}")
+        println!(
+            rt,
+            "{class}: {cases} cases; nearest {nearest}, up {up}, down {down}, toward zero {toward_zero}"
+        )
     }
 }
 
@@ -231,7 +258,9 @@ fn main(rt: LibcRuntime) -> Result<(), AnyError> {
     report.exact_sums.print(&rt, "exact sums")?;
     report.rounded_sums.print(&rt, "rounded sums")?;
     report.exact_differences.print(&rt, "exact differences")?;
-    report.rounded_differences.print(&rt, "rounded differences")?;
+    report
+        .rounded_differences
+        .print(&rt, "rounded differences")?;
     let unreadable = report.unreadable;
     println!(rt, "lines that are no case: {unreadable}")?;
     match report.first_mismatch {
