@@ -48,7 +48,3 @@ pub value-neg : (x : ℤ) → value (negℤ x) ≡ negℤ (value x)
 value-neg (pos zero) = let z : units 0 ≡ 0 = units-low 0 (omega arith) in omega (arith, ints, z)
 value-neg (pos (suc n)) = refl
 value-neg (negsuc n) = sym (negℤ-negℤ (pos (units (suc n))))
-
--- as the code negates: 0 less x
-pub value-less : (x : ℤ) → value (pos 0 +ℤ negℤ x) ≡ negℤ (value x)
-value-less x = let e : pos 0 +ℤ negℤ x ≡ negℤ x = omega (arith, ints) in ap value e ∙ value-neg x

@@ -1,10 +1,10 @@
 ghost use mathlib.Core.Logic.{_⊎_};
 ghost use mathlib.Core.Path.{_≡_};
-ghost use Prim.Native.Nat.{_≤_};
+ghost use Prim.Native.Nat.{_+_, _≤_, min};
 ghost use lib.IntN.{_+ℤ_, natAbs, negℤ};
 ghost use Rattle.catalogue.specs.Modes.{greater-if, greatest-of, has-mode, least-of, lesser-if};
 ghost use Rattle.catalogue.specs.Operations.{greatest-result, least-result};
-ghost use Rattle.binary32.specs.Units.{Reading, value};
+ghost use Rattle.binary32.specs.Units.{Reading, beyond, value};
 ghost use Rattle.binary32.specs.Locations.{Locates};
 ghost use Rattle.binary32.specs.Computed.{from-zero, magnitude-by, rank-by, to-nearest, toward-zero};
 ghost use Rattle.binary32.specs.Binary32.{binary32 as Arithmetic32};
@@ -22,21 +22,18 @@ use catalogue::types::Modes;
 use catalogue::types::Span;
 
 impl Location {
-    /// The magnitude toward zero, the largest reading at most.
+    /// The magnitude toward zero, at most the largest reading's.
     fn toward_zero(self) -> u32
         ensures { λ r. ⌜ r ≡ toward-zero (self .rank) (self .rest) ⌝ }
     {
         self.rank.min(LARGEST)
     }
 
-    /// The magnitude away from zero.
-    fn from_zero(self) -> u32
-        ensures { λ r. ⌜ r ≡ from-zero (self .rank) (self .rest) ⌝ }
+    /// The rank's magnitude or the next, and beyond from there on.
+    fn raised(self, up: u32) -> u32
+        requires { ⌜ up ≤ 1 ⌝ }
+        ensures { λ r. ⌜ r ≡ min (self .rank + up) beyond ⌝ }
     {
-        let up = match self.rest {
-            Rest::Exact => 0,
-            Rest::BelowMiddle | Rest::Middle | Rest::AboveMiddle => 1,
-        };
         if self.rank < BEYOND {
             self.rank + up
         } else {
@@ -44,19 +41,24 @@ impl Location {
         }
     }
 
+    /// The magnitude away from zero.
+    fn from_zero(self) -> u32
+        ensures { λ r. ⌜ r ≡ from-zero (self .rank) (self .rest) ⌝ }
+    {
+        match self.rest {
+            Rest::Exact => self.raised(0),
+            Rest::BelowMiddle | Rest::Middle | Rest::AboveMiddle => self.raised(1),
+        }
+    }
+
     /// The nearest magnitude, at a tie the even one.
     fn nearest(self) -> u32
         ensures { λ r. ⌜ r ≡ to-nearest (self .rank) (self .rest) ⌝ }
     {
-        let up = match self.rest {
-            Rest::Exact | Rest::BelowMiddle => 0,
-            Rest::Middle => self.rank % 2,
-            Rest::AboveMiddle => 1,
-        };
-        if self.rank < BEYOND {
-            self.rank + up
-        } else {
-            BEYOND
+        match self.rest {
+            Rest::Exact | Rest::BelowMiddle => self.raised(0),
+            Rest::Middle => self.raised(self.rank % 2),
+            Rest::AboveMiddle => self.raised(1),
         }
     }
 }
@@ -66,11 +68,12 @@ impl ExactSum {
     fn magnitude(self, mode: Mode) -> u32
         ensures { λ r. ⌜ r ≡ magnitude-by mode (self .negative) (self .location .rank) (self .location .rest) ⌝ }
     {
+        let at = self.location;
         match (mode, self.negative) {
-            (Mode::Nearest, _) => self.location.nearest(),
-            (Mode::Up, false) | (Mode::Down, true) => self.location.from_zero(),
-            (Mode::Up, true) | (Mode::Down, false) | (Mode::TowardZero, _) => self.location
-                .toward_zero(),
+            (Mode::Nearest, _) => at.nearest(),
+            (Mode::Up, false) | (Mode::Down, true) => at.from_zero(),
+            (Mode::Up, true) | (Mode::Down, false) => at.toward_zero(),
+            (Mode::TowardZero, _) => at.toward_zero(),
         }
     }
 
@@ -149,13 +152,22 @@ pub(crate) fn exact_sum(x: i32, y: i32) -> ExactSum
     }
 }
 
+/// The rank of the same magnitude and the other sign.
+fn negated(rank: i32) -> i32
+    requires { ⌜ Reading rank ⌝ }
+    ensures value { λ r. ⌜ r ≡ negℤ rank ⌝ }
+    ensures reads { λ r. ⌜ Reading r ⌝ }
+{
+    -rank
+}
+
 /// The exact difference of two readings: a sum with the second one negated.
 pub(crate) fn exact_difference(x: i32, y: i32) -> ExactSum
     requires x { ⌜ Reading x ⌝ }
     requires y { ⌜ Reading y ⌝ }
     ensures { λ r. ⌜ Locates (value x +ℤ negℤ (value y)) r ⌝ }
 {
-    exact_sum(x, -y)
+    exact_sum(x, negated(y))
 }
 
 /// The least and the greatest result of an operation on readings.
