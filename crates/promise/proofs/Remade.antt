@@ -4,13 +4,15 @@ use mathlib.Core.Bool.{true, false, cond, _&&_, _||_}
 use mathlib.Core.Path.{_≡_, refl, ap, _∙_}
 use native.Mathlib.Omega.{arith}
 use lib.Dec.{eqb, ltb}
-use Rattle.std.specs.declared.option.Option.the-variants.{Some}
+use Rattle.std.specs.declared.option.Option.{Option}
+use Rattle.std.specs.declared.option.Option.the-variants.{Some, None}
 use Rattle.std.specs.declared.result.Result.{Result}
 use Rattle.std.specs.declared.result.Result.the-variants.{Ok, Err}
-use Rattle.std.proofs.shelf.Tests.{and-parts, and-from, or-from, cond-true, cond-false, ltb-true, lt-ltb, le-ltb, ne-eqb}
+use Rattle.std.proofs.shelf.Tests.{and-parts, and-from, or-parts, or-from, cond-both, cond-true, cond-false, eqb-false, ltb-true, ltb-false, lt-ltb, le-ltb, ne-eqb}
 use Rattle.catalogue.specs.declared.types.Kind.{Kind}
 use Rattle.catalogue.specs.declared.types.Kind.the-variants.{Sum, Difference, Peak}
 use Rattle.sheet.specs.declared.lines.CheckedLine.{CheckedLine}
+use Rattle.sheet.specs.declared.lines.DrawnLine.{DrawnLine}
 use Rattle.sheet.specs.declared.lines.Line.{Line}
 use Rattle.sheet.specs.declared.table.Table.{Table}
 use Rattle.catalogue.specs.Meanings.{Meaning}
@@ -65,3 +67,32 @@ checked-passes c =
 
 pub enter-called : (m : Meaning) (n : ℕ) (c : CheckedLine) (t : Table) → called m (enter n (c .line)) t ≡ enter-table m n c t
 enter-called m n c t = cond-true (passes-check (c .line)) (line-table m n (c .line) t) t (checked-passes c)
+
+-- what the check answers passes it
+abbrev pub Passed : Result Line ℕ → Type 0
+Passed (Ok l) = passes-check l ≡ true
+Passed (Err e) = Unit {0}
+
+pub checked-passed : (d : DrawnLine) → Passed (checked d)
+checked-passed d = by (kind-of (d .kind))
+  where
+    by : (o : Option Kind) → Passed (checked-kind o d)
+    by None = tt
+    by (Some k) =
+        let l : Line = record { kind = k; modes = record { bits = d .modes }; x = d .x; y = d .y; z = d .z } in
+        cond-both (eqb (d .modes) 0 || ltb 15 (d .modes)) (Err 5) (cond (ltb 31 (d .x) || (ltb 31 (d .y) || ltb 31 (d .z))) (Err 1) (Ok l)) Passed
+        (λ _. tt)
+        (λ e. let modes = or-parts (eqb (d .modes) 0) (ltb 15 (d .modes)) e in
+        cond-both (ltb 31 (d .x) || (ltb 31 (d .y) || ltb 31 (d .z))) (Err 1) (Ok l) Passed
+          (λ _. tt)
+          (λ f.
+          let x = or-parts (ltb 31 (d .x)) (ltb 31 (d .y) || ltb 31 (d .z)) f in
+          let yz = or-parts (ltb 31 (d .y)) (ltb 31 (d .z)) (x .1) in
+          let some = eqb-false (d .modes) 0 (modes .0) in
+          let few = ltb-false 15 (d .modes) (modes .1) in
+          let hx = ltb-false 31 (d .x) (x .0) in
+          let hy = ltb-false 31 (d .y) (yz .0) in
+          let hz = ltb-false 31 (d .z) (yz .1) in
+          and-from (ltb 0 (d .modes) && ltb (d .modes) 16) (ltb (d .x) 32 && (ltb (d .y) 32 && ltb (d .z) 32))
+            (and-from (ltb 0 (d .modes)) (ltb (d .modes) 16) (lt-ltb 0 (d .modes) (omega (arith, some))) (lt-ltb (d .modes) 16 (omega arith)))
+            (and-from (ltb (d .x) 32) (ltb (d .y) 32 && ltb (d .z) 32) (lt-ltb (d .x) 32 (omega arith)) (and-from (ltb (d .y) 32) (ltb (d .z) 32) (lt-ltb (d .y) 32 (omega arith)) (lt-ltb (d .z) 32 (omega arith))))))

@@ -1,19 +1,32 @@
 -- Answers, line after line: what the loop over a script has in hand.
-use mathlib.Core.Path.{_≡_, sym, ap, _∙_}
+use mathlib.Core.Path.{_≡_, refl, sym, ap, subst, _∙_}
 use mathlib.Core.List.{List, [], _∷_, _++_, append-assoc, append-nil}
 use mathlib.Core.Bool.{true}
 use Prim.Native.Nat.{ℕ}
 use native.Mathlib.Omega.{arith}
 use lib.Dec.{eqb}
 use lib.ListN.{length}
-use Rattle.std.proofs.shelf.Tests.{eqb-true}
-use Rattle.catalogue.specs.Meanings.{Meaning}
+use Rattle.std.proofs.shelf.Tests.{cond-true, eqb-true}
+use Rattle.std.specs.declared.option.Option.{Option}
+use Rattle.std.specs.declared.option.Option.the-variants.{Some, None}
+use Rattle.std.specs.declared.result.Result.{Result}
+use Rattle.std.specs.declared.result.Result.the-variants.{Ok, Err}
+use Rattle.catalogue.specs.Meanings.{Meaning, Laws}
+use Rattle.commands.specs.declared.Command.{Command}
+use Rattle.commands.specs.declared.Command.the-variants.{Limit, Enter, Strike, Settle, Look, Partner}
+use Rattle.sheet.specs.declared.lines.Line.{Line}
+use Rattle.sheet.specs.Calls.{drawn-table, line-table}
+use Rattle.sheet.specs.Lines.{checked}
+use Rattle.promise.specs.Histories.{Call, after, passes-check}
+use Rattle.promise.specs.Promise.{Shows}
+use Rattle.promise.proofs.Promised.{promise-kept}
+use Rattle.promise.proofs.Remade.{Passed, checked-passed}
 use Rattle.answers.specs.Texts.{Reply, line-of}
 use Rattle.commands.specs.Commands.{command-of}
 use Rattle.sheet.specs.declared.table.Table.{Table}
 use Rattle.sheet.specs.Rules.{new-table}
 use Rattle.words.specs.Lines.{lines}
-use Rattle.session.specs.Sessions.{replied, table-after, answers}
+use Rattle.session.specs.Sessions.{Leads, answers, calls-of, drawn, entering, replied, table-after}
 
 pub answers-more : (m n : Meaning) (t u : Table) (o p l r xs all : List ℕ) (a : Reply) → m ≡ n → p ≡ o ++ line-of a → a ≡ replied m (command-of l) t → u ≡ table-after m (command-of l) t → lines xs ≡ l ∷ lines r → o ++ answers m (lines xs) t ≡ all → p ++ answers n (lines r) u ≡ all
 answers-more m n t u o p l r xs all a en ep ea eu el e =
@@ -27,3 +40,23 @@ answers-all m t o (b ∷ bs) all e i = absurd (omega (arith, eqb-true (length (b
 
 pub answers-new : (m n : Meaning) (t : Table) (ls : List (List ℕ)) → n ≡ m → t ≡ new-table m → answers n ls t ≡ answers m ls (new-table m)
 answers-new m n t ls e f = ap (λ k. answers k ls t) e ∙ ap (answers m ls) f
+
+-- ---- histories: a command leaves what its call leaves
+
+entered-after : (m : Meaning) (n : ℕ) (h : List Call) (q : Result Line ℕ) → Passed q → drawn-table m n q (after m h) ≡ after m (entering n q ++ h)
+entered-after m n h (Err e) p = refl
+entered-after m n h (Ok l) p = sym (cond-true (passes-check l) (line-table m n l (after m h)) (after m h) p)
+
+command-after : (m : Meaning) (c : Option Command) (h : List Call) → table-after m c (after m h) ≡ after m (calls-of c ++ h)
+command-after m None h = refl
+command-after m (Some (Limit r low high)) h = refl
+command-after m (Some (Enter n k s x y z)) h = entered-after m n h (checked (drawn k s x y z)) (checked-passed (drawn k s x y z))
+command-after m (Some (Strike n)) h = refl
+command-after m (Some (Settle b)) h = refl
+command-after m (Some (Look r)) h = refl
+command-after m (Some (Partner n x z)) h = refl
+
+pub leads-on : (m : Meaning) → Laws m → (c : Option Command) (h : List Call) (t u : Table) → u ≡ table-after m c t → t ≡ after m h → Leads m (calls-of c ++ h) u
+leads-on m laws c h t u e f =
+    let here : u ≡ after m (calls-of c ++ h) = e ∙ ap (table-after m c) f ∙ command-after m c h in
+    record { is = here; shows = subst (Shows m (calls-of c ++ h)) (sym here) (promise-kept m laws .shows (calls-of c ++ h)) }

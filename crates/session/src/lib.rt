@@ -1,6 +1,6 @@
 //! A script and its answers: each command carried out on one sheet, in turn.
 
-ghost use mathlib.Core.List.{_++_};
+ghost use mathlib.Core.List.{List, _++_};
 ghost use mathlib.Core.Path.{_≡_};
 ghost use Rattle.std.specs.Of.String.{string-bytes};
 ghost use Rattle.std.specs.Vec.{made};
@@ -8,8 +8,11 @@ ghost use Rattle.std.specs.declared.option.Option.the-variants.{Some};
 ghost use Rattle.answers.specs.Texts.{line-of, refused, reply-of};
 ghost use Rattle.catalogue.specs.Refusals.{numbered};
 ghost use Rattle.commands.specs.Commands.{command-of};
-ghost use Rattle.session.specs.Sessions.{answers, board-of, by-board, looked, ok-or, replied, stepped-or, table-after, written-for};
-ghost use Rattle.sheet.specs.Calls.{drawn-asked, drawn-table, settle-asked, settle-table};
+ghost use Rattle.promise.specs.Histories.{Call, after};
+ghost use Rattle.promise.specs.Promise.{Consequences, Promise};
+ghost use Rattle.promise.specs.Shown.{show-asked};
+ghost use Rattle.session.specs.Sessions.{Leads, answers, board-of, by-board, calls-of, ok-or, paired-or, replied, shown-or, stepped-or, table-after, written-for};
+ghost use Rattle.sheet.specs.Calls.{drawn-asked, drawn-table, partner-asked, settle-asked, settle-table};
 ghost use Rattle.sheet.specs.Lines.{checked};
 ghost use Rattle.sheet.specs.Rules.{new-table};
 ghost use Rattle.words.specs.Lines.{lines};
@@ -23,6 +26,7 @@ use commands::Command;
 use commands::read;
 use counters::counter::Counter;
 use counters::counter::CounterCatalogue;
+use promise::show;
 use sheet::kind_number;
 use sheet::lines::DrawnLine;
 use sheet::sheet::Sheet;
@@ -71,19 +75,26 @@ fn settle<C: Catalogue>(sheet: &mut Sheet<C>, budget: u32) -> Answer
     }
 }
 
-/// Looks at one register.
+/// Shows one register.
 fn look<C: Catalogue>(sheet: &Sheet<C>, register: u32) -> Answer
-    ensures { λ r. ⌜ reply-of r ≡ looked (meaning (now (sheet .entry) .catalogue)) register (now (sheet .entry) .table) ⌝ }
+    ensures { λ r. ⌜ reply-of r ≡ shown-or (show-asked (meaning (now (sheet .entry) .catalogue)) register (now (sheet .entry) .table)) ⌝ }
 {
-    match sheet.look() {
-        Ok(look) => match look.patterns(register) {
-            Ok((low, high)) => Answer::Shown {
-                low,
-                high,
-                settled: look.is_settled(),
-            },
-            Err(refusal) => Answer::Declined(refusal),
+    match show(sheet, register) {
+        Ok(shown) => Answer::Shown {
+            low: shown.low,
+            high: shown.high,
+            settled: shown.settled,
         },
+        Err(refusal) => Answer::Declined(refusal),
+    }
+}
+
+/// Asks for a partner.
+fn partner<C: Catalogue>(sheet: &Sheet<C>, place: u32, x: u32, z: u32) -> Answer
+    ensures { λ r. ⌜ reply-of r ≡ paired-or (partner-asked (meaning (now (sheet .entry) .catalogue)) place x z (now (sheet .entry) .table)) ⌝ }
+{
+    match sheet.partner(place, x, z) {
+        Ok(y) => Answer::Partner(y),
         Err(refusal) => Answer::Declined(refusal),
     }
 }
@@ -120,21 +131,36 @@ fn carry_out<C: Catalogue>(sheet: &mut Sheet<C>, command: Command) -> Answer
                 },
             ))
         }
+        Command::Strike { place } => done_or(sheet.strike(place)),
         Command::Settle { budget } => settle(sheet, budget),
         Command::Look { register } => look(sheet, register),
+        Command::Partner { place, x, z } => partner(sheet, place, x, z),
     }
 }
 
-/// Carries out the command that a line stands for, and answers it.
+/// Carries out the command that a line stands for, if it stands for one.
+fn respond<C: Catalogue>(sheet: &mut Sheet<C>, command: Option<Command>) -> Answer
+    ensures answer { λ r. ⌜ reply-of r ≡ replied (meaning (now (sheet .entry) .catalogue)) command (now (sheet .entry) .table) ⌝ }
+    ensures table { λ _. ⌜ now (sheet .exit) .table ≡ table-after (meaning (now (sheet .entry) .catalogue)) command (now (sheet .entry) .table) ⌝ }
+    ensures catalogue { λ _. ⌜ now (sheet .exit) .catalogue ≡ now (sheet .entry) .catalogue ⌝ }
+{
+    match command {
+        Some(command) => carry_out(sheet, command),
+        None => Answer::Declined(Refusal::Unreadable),
+    }
+}
+
+/// Carries out the command that a line stands for, and answers it. A sheet that some history of calls led to is then
+/// what that history with this call leads to, and shows what the promise says.
 pub fn answer<C: Catalogue>(sheet: &mut Sheet<C>, line: &[u8]) -> Answer
     ensures answer { λ r. ⌜ reply-of r ≡ replied (meaning (now (sheet .entry) .catalogue)) (command-of (now (line .entry))) (now (sheet .entry) .table) ⌝ }
     ensures table { λ _. ⌜ now (sheet .exit) .table ≡ table-after (meaning (now (sheet .entry) .catalogue)) (command-of (now (line .entry))) (now (sheet .entry) .table) ⌝ }
     ensures catalogue { λ _. ⌜ now (sheet .exit) .catalogue ≡ now (sheet .entry) .catalogue ⌝ }
+    ensures history { λ _. ⌜ ((h : List Call) → now (sheet .entry) .table ≡ after (meaning (now (sheet .entry) .catalogue)) h → Leads (meaning (now (sheet .entry) .catalogue)) (calls-of (command-of (now (line .entry))) ++ h) (now (sheet .exit) .table)) ⌝ }
+    ensures promise { λ _. ⌜ Promise (meaning (now (sheet .entry) .catalogue)) ⌝ }
+    ensures consequences { λ _. ⌜ Consequences (meaning (now (sheet .entry) .catalogue)) ⌝ }
 {
-    match read(line) {
-        Some(command) => carry_out(sheet, command),
-        None => Answer::Declined(Refusal::Unreadable),
-    }
+    respond(sheet, read(line))
 }
 
 /// Answers every line of a script on one sheet.
