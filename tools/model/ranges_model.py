@@ -6,8 +6,8 @@ docs/SCRIPTS.md and from nothing else. It shares no code with the crates and is
 meant to be read against those four documents, rule by rule; speed is no aim.
 
     python3 tools/model/ranges_model.py < SCRIPT            the answers
-    python3 tools/model/ranges_model.py --steps < SCRIPT    also every step, in
-                                                            base ten, on stderr
+    python3 tools/model/ranges_model.py --steps < SCRIPT    also every step, on
+                                                            stderr
 
 To add a catalogue, write a class like Counter and name its letter in
 CATALOGUES. To add a command, write a function like do_look and name its letter
@@ -18,6 +18,7 @@ import re
 import sys
 
 SUM, DIFFERENCE, PEAK = 0, 1, 2
+NEAREST, UP, DOWN, TOWARD_ZERO = MODES = 1, 2, 4, 8
 
 REGISTERS = 32
 PLACES = 64
@@ -71,7 +72,8 @@ def ranks_where(holds, given):
 # ------------------------------------------------------------ catalogues
 # A catalogue has: least, greatest; rank_of(pattern), which may refuse with 2;
 # pattern_of(rank); and for each kind and mode set the least and the greatest
-# result of two readings. Narrowing is one text for all of them.
+# result of two readings. Narrowing is one text for all of them. `told` is how
+# --steps writes a rank.
 
 class Counter:
     least = 0
@@ -87,6 +89,9 @@ class Counter:
     def pattern_of(self, rank):
         return rank
 
+    def told(self, rank):
+        return "%d" % rank
+
     def least_result(self, kind, modes, x, y):
         if kind == SUM:
             return min(x + y, self.greatest)
@@ -97,7 +102,90 @@ class Counter:
     greatest_result = least_result             # a counter never rounds
 
 
-CATALOGUES = {"C": Counter}                    # by the first line of a script
+class Binary32:
+    """Values are whole numbers of units, as large as they come; the machine's
+    own floating point takes no part."""
+
+    def __init__(self, field_bits=8, fraction_bits=23):     # fewer serve the tests
+        self.digits = fraction_bits + 1        # binary digits that a reading has
+        self.fractions = 2 ** fraction_bits    # readings with one exponent field
+        self.sign_bit = self.fractions * 2 ** field_bits
+        self.beyond = self.fractions * (2 ** field_bits - 1)
+        self.greatest = self.beyond - 1
+        self.least = -self.greatest
+        self.threshold = (2 ** (self.digits + 1) - 1) * 2 ** (2 ** field_bits - 4)
+        self.roundings = {NEAREST: self.nearest, UP: self.up, DOWN: self.down,
+                          TOWARD_ZERO: self.toward_zero}
+
+    def rank_of(self, pattern):
+        sign, magnitude = divmod(pattern, self.sign_bit)
+        if magnitude >= self.beyond:           # an exponent field of ones only
+            raise Refused(2)
+        return -magnitude if sign else magnitude
+
+    def pattern_of(self, rank):
+        return rank if rank >= 0 else self.sign_bit - rank
+
+    def told(self, rank):
+        return "%08X" % self.pattern_of(rank)
+
+    def units(self, rank):
+        """The value of a reading."""
+        field, fraction = divmod(abs(rank), self.fractions)
+        value = fraction if field == 0 else (self.fractions + fraction) << (field - 1)
+        return -value if rank < 0 else value
+
+    # The four roundings, each from an exact value in units to a rank.
+
+    def down(self, exact):
+        if exact < 0:
+            return -self.up(-exact)
+        # A reading keeps the first binary digits of the value, as many as it has;
+        # each digit left out raises the exponent field by one.
+        left_out = max(exact.bit_length() - self.digits, 0)
+        return min(left_out * self.fractions + (exact >> left_out), self.greatest)
+
+    def up(self, exact):
+        if exact < 0:
+            return -self.down(-exact)
+        below = self.down(exact)               # the next rank may be beyond
+        return below if self.units(below) == exact else below + 1
+
+    def toward_zero(self, exact):
+        return self.down(exact) if exact >= 0 else self.up(exact)
+
+    def nearest(self, exact):
+        if exact >= self.threshold:
+            return self.beyond
+        if exact <= -self.threshold:
+            return -self.beyond
+        low, high = self.down(exact), self.up(exact)
+        if high == self.beyond:                # only one of the two is a reading
+            return low
+        if low == -self.beyond:
+            return high
+        to_low, to_high = exact - self.units(low), self.units(high) - exact
+        if to_low != to_high:
+            return low if to_low < to_high else high
+        return low if low % 2 == 0 else high
+
+    def results(self, kind, modes, x, y):
+        if kind == PEAK:
+            return [max(x, y)]
+        if kind == SUM:
+            exact = self.units(x) + self.units(y)
+        else:
+            exact = self.units(x) - self.units(y)
+        return [self.roundings[mode](exact) for mode in MODES if modes & mode]
+
+    def least_result(self, kind, modes, x, y):
+        return min(self.results(kind, modes, x, y))
+
+    def greatest_result(self, kind, modes, x, y):
+        return max(self.results(kind, modes, x, y))
+
+
+CATALOGUES = {"B": Binary32, "C": Counter}     # by the first line of a script
 
 
 def narrow(catalogue, kind, modes, x, y, z):
@@ -351,7 +439,8 @@ def print_step(sheet, place, before):
     if sheet.void:
         what = "void"
     else:
-        what = ", ".join("r%d %d..%d" % (register, low, high)
+        told = sheet.catalogue.told
+        what = ", ".join("r%d %s..%s" % (register, told(low), told(high))
                          for register, (low, high) in enumerate(sheet.ranges)
                          if (low, high) != before[register]) or "no change"
     print("  place %d: %s" % (place, what), file=sys.stderr)
