@@ -132,7 +132,7 @@ class Binary32:
     def units(self, rank):
         """The value of a reading."""
         field, fraction = divmod(abs(rank), self.fractions)
-        value = fraction if field == 0 else (self.fractions + fraction) * 2 ** (field - 1)
+        value = fraction if field == 0 else (self.fractions + fraction) << (field - 1)
         return -value if rank < 0 else value
 
     # The four roundings, each from an exact value in units to a rank.
@@ -215,6 +215,24 @@ def narrow(catalogue, kind, modes, x, y, z):
     if None in (new_x, new_y, new_z):
         return None
     return new_x, new_y, new_z
+
+
+def partner(catalogue, kind, modes, x, y, z):
+    """Some y of a range that makes an allowed triple with x and z, or None.
+
+    Where there are several it is the lowest under the first mode that has one.
+    """
+    for mode in MODES:
+        if modes & mode:
+            def result(r):
+                return catalogue.least_result(kind, mode, x, r)
+            if kind == DIFFERENCE:
+                arrived = ranks_where(lambda r: result(r) <= z, y)
+            else:
+                arrived = ranks_where(lambda r: result(r) >= z, y)
+            if arrived is not None and result(arrived[0]) == z:
+                return arrived[0]
+    return None
 
 
 # ----------------------------------------------------------------- lines
@@ -301,6 +319,12 @@ class Sheet:
         if not self.void:
             self.due.add(place)
 
+    def strike(self, place):
+        if place >= PLACES or place not in self.lines:
+            raise Refused(7)
+        del self.lines[place]
+        self.return_to_limits()
+
     def step(self):
         place = min(self.due)
         self.due.remove(place)
@@ -342,6 +366,17 @@ class Sheet:
             raise Refused(1)
         return self.ranges[register], not self.due
 
+    def partner(self, place, x_pattern, z_pattern):
+        if place >= PLACES or place not in self.lines:
+            raise Refused(7)
+        x = self.catalogue.rank_of(x_pattern)
+        z = self.catalogue.rank_of(z_pattern)
+        if self.void:
+            raise Refused(9)
+        line = self.lines[place]
+        y = partner(self.catalogue, line.kind, line.modes, x, self.ranges[line.y], z)
+        return None if y is None else self.catalogue.pattern_of(y)
+
 
 # -------------------------------------------------------------- commands
 # Each takes the sheet and its words, already read, and answers a text.
@@ -356,6 +391,11 @@ def do_enter(sheet, place, kind, modes, x, y, z):
     return "ok"
 
 
+def do_strike(sheet, place):
+    sheet.strike(place)
+    return "ok"
+
+
 def do_settle(sheet, budget):
     return "%s %d" % sheet.settle(budget)
 
@@ -367,6 +407,11 @@ def do_look(sheet, register):
                              "settled" if settled else "open")
 
 
+def do_partner(sheet, place, x, z):
+    found = sheet.partner(place, x, z)
+    return "none" if found is None else "%08X" % found
+
+
 # A form is what a word must look like and what it then means.
 
 NUMBER = (r"0|[1-9][0-9]{0,4}", int)
@@ -376,8 +421,10 @@ KIND = (r"[sdp]", {"s": SUM, "d": DIFFERENCE, "p": PEAK}.get)
 COMMANDS = {
     "L": ((NUMBER, PATTERN, PATTERN), do_limit),
     "E": ((NUMBER, KIND, NUMBER, NUMBER, NUMBER, NUMBER), do_enter),
+    "K": ((NUMBER,), do_strike),
     "S": ((NUMBER,), do_settle),
     "R": ((NUMBER,), do_look),
+    "P": ((NUMBER, PATTERN, PATTERN), do_partner),
 }
 
 

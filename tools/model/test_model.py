@@ -4,6 +4,7 @@
     python3 tools/model/test_model.py
 """
 
+import copy
 import itertools
 import os
 import random
@@ -13,13 +14,15 @@ import sys
 import unittest
 from fractions import Fraction
 
-sys.dont_write_bytecode = True
-import ranges_model as model
-from ranges_model import (SUM, DIFFERENCE, PEAK, NEAREST, UP, DOWN, TOWARD_ZERO, MODES,
-                          Binary32, Counter, Refused, common, inside, narrow, ranges)
-
 HERE = os.path.dirname(os.path.abspath(__file__))
 ROOT = os.path.dirname(os.path.dirname(HERE))
+sys.dont_write_bytecode = True
+sys.path.append(os.path.join(ROOT, "tools", "tasks"))
+import make_long_use
+import ranges_model as model
+from ranges_model import (SUM, DIFFERENCE, PEAK, NEAREST, UP, DOWN, TOWARD_ZERO, MODES,
+                          Binary32, Counter, Refused, common, inside, narrow, partner, ranges)
+
 KINDS = (SUM, DIFFERENCE, PEAK)
 TOP = 16777215
 
@@ -422,6 +425,65 @@ class Binary32Narrowing(unittest.TestCase):
         self.assertGreater(answers[0], 500)
 
 
+class Partners(unittest.TestCase):
+    def holds(self, catalogue, kind, modes, x, y, z):
+        """Against every y of the range: some partner or none, and which one."""
+        found = {(mode, b) for _, b, c, mode in triples(catalogue, kind, modes, (x, x), y) if c == z}
+        expected = min(found)[1] if found else None     # first mode, then lowest y
+        self.assertEqual(partner(catalogue, kind, modes, x, y, z), expected)
+        return expected is not None
+
+    def test_every_question_of_small_counters(self):
+        for top in range(5):
+            counter, readings = Counter(top), range(top + 1)
+            for kind, x, y, z in itertools.product(KINDS, readings, all_ranges(top), readings):
+                self.holds(counter, kind, 6, x, y, z)
+
+    def test_small_formats(self):
+        chance = random.Random(10)
+        for board in (Binary32(2, 1), Binary32(3, 2)):
+            def any_rank():
+                return chance.randint(board.least, board.greatest)
+            for _ in range(2000):
+                self.holds(board, chance.choice(KINDS), chance.randint(1, 15), any_rank(),
+                           tuple(sorted((any_rank(), any_rank()))), any_rank())
+
+    def test_short_ranges(self):
+        chance, answers = random.Random(11), [0, 0]
+        for x, y in CLOSE * 60:
+            kind, modes = chance.choice(KINDS), chance.randint(1, 15)
+            if kind == DIFFERENCE and chance.random() < 0.8:
+                y = "%08X" % (int(y, 16) ^ 0x80000000)
+            x = min(rank(x) + chance.randint(-2, 2), GREATEST)
+            low = max(min(rank(y) + chance.randint(-4, 2), GREATEST), -GREATEST)
+            y = low, min(low + chance.randint(0, 6), GREATEST)
+            some = [c for _, _, c, _ in triples(BOARD, kind, modes, (x, x), y)] or [0]
+            z = max(min(chance.choice(some) + chance.randint(-1, 1), GREATEST), -GREATEST)
+            answers[self.holds(BOARD, kind, modes, x, y, z)] += 1
+        self.assertGreater(min(answers), 200)
+
+    def test_worked_examples(self):
+        sixteen = rank("41800000")
+        self.assertEqual(partner(BOARD, SUM, 1, sixteen, span("BF800000", "3F800000"), sixteen),
+                         rank("B5000000"))
+        self.assertEqual(partner(BOARD, SUM, 1, sixteen, span("00000000", "3F800000"), sixteen), 0)
+        self.assertIsNone(partner(BOARD, SUM, 1, sixteen, span("3F800000", "40000000"), sixteen))
+
+    def test_wide_ranges(self):
+        """An answer is a partner, and one that is known to exist is not missed."""
+        chance = random.Random(12)
+        for _ in range(1500):
+            kind, modes = chance.choice(KINDS), chance.randint(1, 15)
+            x, y = [chance.choice([chance.randint(-GREATEST, GREATEST), chance.randint(-2 ** 25, 2 ** 25)])
+                    for _ in "xy"]
+            z = chance.choice(BOARD.results(kind, modes, x, y))
+            y = max(-GREATEST, y - chance.randint(0, 2 ** 30)), min(GREATEST, y + chance.randint(0, 2 ** 30))
+            if abs(z) <= GREATEST:
+                found = partner(BOARD, kind, modes, x, y, z)
+                self.assertIn(found, ranks(y))
+                self.assertIn(z, BOARD.results(kind, modes, x, found))
+
+
 def sheet_with(limits, lines, top=TOP):
     sheet = model.Sheet(Counter(top))
     for register, (low, high) in limits.items():
@@ -439,6 +501,34 @@ class Settling(unittest.TestCase):
         sheet = sheet_with({0: (10, 20), 2: (30, 100)}, [(SUM, 1, 0, 0, 2)])
         sheet.settle(9)
         self.assertEqual((sheet.ranges[0], sheet.ranges[2]), ((10, 20), (30, 40)))
+
+    def test_strike(self):
+        sheet = sheet_with({0: (5, 9), 1: (2, 7), 2: (90, 99)}, [(PEAK, 1, 0, 1, 1), (SUM, 1, 0, 1, 2)])
+        self.assertEqual(sheet.settle(9), ("void", 3))
+        sheet.strike(1)
+        self.assertEqual((sheet.void, sheet.due), (False, {0}))
+        self.assertEqual(sheet.ranges, sheet.limits)
+        self.assertEqual(sheet.settle(9), ("settled", 2))
+        self.assertEqual(sheet.ranges[:2], [(5, 7), (5, 7)])
+        sheet.strike(0)
+        self.assertEqual((sheet.ranges, sheet.due), (sheet.limits, set()))
+        for place in (0, 1, 64):
+            self.assertRaises(Refused, sheet.strike, place)
+
+    def test_partner_holds_nothing_equal(self):
+        """x and z are taken as they are given, also where the line names a register twice."""
+        sheet = sheet_with({0: (10, 20)}, [(SUM, 1, 0, 0, 0)])
+        self.assertEqual(sheet.partner(0, 100, 115), 15)
+        self.assertIsNone(sheet.partner(0, 100, 121))
+        self.assertEqual(sheet.due, {0})
+
+    def test_partner_is_sought_in_the_shown_range(self):
+        sheet = sheet_with({0: (0, 100), 1: (0, 60), 2: (120, 200)}, [(SUM, 1, 0, 1, 2)])
+        self.assertEqual(sheet.partner(0, 110, 120), 10)
+        self.assertEqual(sheet.settle(9), ("settled", 2))
+        self.assertEqual(sheet.ranges[1], (20, 60))
+        self.assertIsNone(sheet.partner(0, 110, 120))
+        self.assertEqual(sheet.partner(0, 100, 120), 20)
 
     def test_small_sheets_against_every_assignment(self):
         """Rest depends on no order of lines, and loses no assignment."""
@@ -493,7 +583,10 @@ class Scripts(unittest.TestCase):
                      b"L 0 0000000G 0000000F", b"L 0 00000001", b"L 0 00000001 00000002 3",
                      b"L 32 00000001", b"L 99999 0000000a 00000000",
                      b"E 0 q 1 0 1 2", b"E 0 S 1 0 1 2", b"E 0 0 1 0 1 2", b"E 0 sd 1 0 1 2",
-                     b"E 0 s 1 0 1", b"E 0 s 1 0 1 2 3", b"E 64 s 0 32 0 00"):
+                     b"E 0 s 1 0 1", b"E 0 s 1 0 1 2 3", b"E 64 s 0 32 0 00",
+                     b"K", b"K ", b"K 0 0", b"K 05", b"K 100000", b"k 0", b"K 0000000A",
+                     b"P 0", b"P 0 00000000", b"P 0 00000000 00000000 00000000",
+                     b"P 0 0 0", b"P 0 0000000a 00000000", b"P 00 00000000 00000000"):
             self.answers(b"C\n" + line + b"\n", b"no 10\n")
 
     def test_readable_but_refused(self):
@@ -505,8 +598,18 @@ class Scripts(unittest.TestCase):
                              (b"E 64 s 1 0 32 0", 1), (b"E 64 s 1 32 0 0", 1),
                              (b"E 64 s 1 0 0 0", 7), (b"E 99999 s 1 0 0 0", 7),
                              (b"S 0", 8), (b"S 65536", 8), (b"S 99999", 8),
-                             (b"R 32", 1), (b"R 99999", 1)):
+                             (b"R 32", 1), (b"R 99999", 1), (b"K 0", 7), (b"K 64", 7),
+                             (b"K 99999", 7), (b"P 0 FFFFFFFF FFFFFFFF", 7), (b"P 64 00000000 00000000", 7)):
             self.answers(b"C\n" + line, b"no %d\n" % number)
+
+    def test_partner_on_a_void_sheet(self):
+        void = b"C\nE 0 s 1 0 1 2\nL 0 00000000 00000005\nL 0 00000005 00000005\n" \
+               b"L 2 00000000 00000004\nS 9\n"
+        for line, number in ((b"P 1 01000000 01000000", 7), (b"P 0 01000000 00000000", 2),
+                             (b"P 0 00000000 01000000", 2), (b"P 0 00000000 00000000", 9),
+                             (b"K 1", 7)):
+            self.answers(void + line, b"ok\n" * 4 + b"void 1\nno %d\n" % number)
+        self.answers(void + b"K 0\nR 0", b"ok\n" * 4 + b"void 1\nok\n00000005 00000005 settled\n")
 
 
 def read(*parts):
@@ -574,10 +677,90 @@ class Quoted(unittest.TestCase):
         self.assertEqual(answers, read("crates", "beamline", "stdout"))
         self.assertEqual(ranges(commands), answers)
 
+    def test_creep(self):
+        self.assertEqual(ranges(read("crates", "creep", "stdin")), read("crates", "creep", "stdout"))
+
     def test_bench(self):
         for name in ("creep60", "chain60"):
             self.assertEqual(ranges(read("tools", "bench", name + ".txt")),
                              read("tools", "bench", name + ".expected"))
+
+
+class Record:
+    """What stands after a script, by its commands and their answers alone."""
+
+    def __init__(self, first):
+        self.first = first
+        self.limits, self.lines = {}, {}           # register, place -> command
+
+    def hear(self, command, answer):
+        letter, *words = command.split(" ")
+        if answer == "ok" and letter == "L":
+            self.limits[words[0]] = command
+        if answer == "ok" and letter == "E":
+            self.lines[words[0]] = " ".join(words[1:])
+        if answer == "ok" and letter == "K":
+            del self.lines[words[0]]
+
+    def new_script(self):
+        """The same limits and lines on a new sheet: each line once, at other places."""
+        lines = sorted(set(self.lines.values()), reverse=True)
+        return [self.first] + sorted(self.limits.values()) + [
+            "E %d %s" % place_and_line for place_and_line in enumerate(lines)]
+
+
+def shown_at_rest(script):
+    """The outcome of a settle after a script, and the looks at all registers."""
+    lines = script + ["S 65535"] + ["R %d" % register for register in range(32)]
+    answers = ranges("\n".join(lines).encode()).decode().split("\n")
+    return [answers[-34].split(" ")[0]] + answers[-33:-1]
+
+
+class LongUse(unittest.TestCase):
+    def script(self, name):
+        return read("tools", "tasks", name).decode().split("\n")[:-1]
+
+    def test_files(self):
+        for name, text in make_long_use.scripts().items():
+            self.assertEqual(text.encode(), read("tools", "tasks", name))
+            self.assertLess(len(text), 60000)
+
+    def test_a_long_used_sheet_beside_a_new_one(self):
+        for name in ("long_use_b.txt", "long_use_c.txt"):
+            script = self.script(name)
+            answers = ranges("\n".join(script).encode()).decode().split("\n")
+            record, seen = Record(script[0]), []
+            for command, answer in zip(script[1:], answers):
+                record.hear(command, answer)
+                seen.append(command[0] + " " + " ".join(answer.split(" ")[:2 if answer[:2] == "no" else 1]))
+            self.assertGreater(sum(seen.count(letter + " ok") for letter in "LEK"), 300)
+            for letter, number in (("L", 1), ("L", 2), ("L", 3), ("E", 5), ("E", 1), ("E", 7), ("E", 6),
+                                   ("K", 7), ("S", 8), ("R", 9), ("R", 1), ("P", 7), ("P", 2), ("P", 9)):
+                self.assertIn("%s no %d" % (letter, number), seen)
+            for answer in ("S settled", "S stopped", "S void", "P none", "K no 10"):
+                self.assertIn(answer, seen)
+            used = shown_at_rest(script)
+            self.assertEqual(used[0], "settled")
+            self.assertEqual(used, shown_at_rest(record.new_script()))
+
+    def test_along_the_way(self):
+        """The same comparison after every twelfth command; one finds a counter creeping."""
+        for name, budget in (("long_use_b.txt", 5000), ("long_use_c.txt", 20000)):
+            script = self.script(name)
+            sheet, record, ends = model.Sheet(model.CATALOGUES[script[0]]()), Record(script[0]), []
+            for i, command in enumerate(script[1:]):
+                record.hear(command, model.answer(sheet, command))
+                if i % 12 == 0:
+                    used, new = copy.deepcopy(sheet), model.Sheet(sheet.catalogue)
+                    for line in record.new_script()[1:]:
+                        self.assertEqual(model.answer(new, line), "ok")
+                    ends.append(used.settle(budget)[0])
+                    self.assertEqual(new.settle(budget)[0], ends[-1])
+                    if ends[-1] == "settled":
+                        self.assertEqual(used.ranges, new.ranges)
+            self.assertGreater(ends.count("settled"), 30)
+            self.assertGreater(ends.count("void"), 10)
+            self.assertLess(ends.count("stopped"), 2)
 
 
 if __name__ == "__main__":
