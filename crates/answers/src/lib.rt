@@ -22,6 +22,7 @@ pub enum Answer {
     Declined(Refusal),
     Stepped { outcome: Outcome, steps: u32 },
     Shown { low: u32, high: u32, settled: bool },
+    Partner(Option<u32>),
 }
 
 /// Appends the answer's line to `out`, which stays as it was where memory is short.
@@ -51,6 +52,11 @@ pub impl fmt::Display for Answer as AnswerDisplay {
                 let high = Pattern(high);
                 let state = state(settled);
                 write!(f, "{low} {high} {state}")
+            }
+            Answer::Partner(None) => f.write_str("none"),
+            Answer::Partner(Some(pattern)) => {
+                let pattern = Pattern(pattern);
+                write!(f, "{pattern}")
             }
         }
     }

@@ -9,10 +9,10 @@ use Rattle.std.proofs.shelf.Tests.{cond-true, cond-false, eqb-true, cases-bool}
 use Rattle.std.specs.declared.option.Option.{Option}
 use Rattle.std.specs.declared.option.Option.the-variants.{Some, None}
 use Rattle.words.specs.Words.{words}
-use Rattle.commands.specs.Commands.{last, limit-of, enter-of, settle-of, look-of, by-letter, command-of}
+use Rattle.commands.specs.Commands.{last, limit-of, enter-of, settle-of, look-of, strike-of, partner-of, by-letter, command-of}
 use Rattle.commands.specs.Lines.{letter-of, words-of, spaced, line-of, Sized, Reads}
 use Rattle.commands.specs.declared.Command.{Command}
-use Rattle.commands.specs.declared.Command.the-variants.{Limit, Enter, Settle, Look}
+use Rattle.commands.specs.declared.Command.the-variants.{Limit, Enter, Settle, Look, Strike, Partner}
 use Rattle.commands.proofs.Spaces.{words-back, spaced-words}
 use Rattle.commands.proofs.Forms.{number-form, pattern-form, kind-form, none-some, taking, step-back}
 
@@ -56,6 +56,18 @@ look-written ws c e =
     taking number-form ws _ c e (λ r r-ws r-fits r-is r-more.
     ended 82 ws r-ws (Look r) c r-more (λ q. record { sized = r-fits; letter = refl; words = join r-is q }))
 
+strike-written : (ws : List (List ℕ)) (c : Command) → strike-of ws ≡ Some c → Written 75 ws c
+strike-written ws c e =
+    taking number-form ws _ c e (λ n n-ws n-fits n-is n-more.
+    ended 75 ws n-ws (Strike n) c n-more (λ q. record { sized = n-fits; letter = refl; words = join n-is q }))
+
+partner-written : (ws : List (List ℕ)) (c : Command) → partner-of ws ≡ Some c → Written 80 ws c
+partner-written ws c e =
+    taking number-form ws _ c e (λ n n-ws n-fits n-is n-more.
+    taking pattern-form n-ws _ c n-more (λ x x-ws x-fits x-is x-more.
+    taking pattern-form x-ws _ c x-more (λ z z-ws z-fits z-is z-more.
+    ended 80 ws z-ws (Partner n x z) c z-more (λ q. record { sized = (n-fits, x-fits, z-fits); letter = refl; words = join n-is (join x-is (join z-is q)) }))))
+
 letter-written : (b : ℕ) (ws : List (List ℕ)) (c : Command) → by-letter b ws ≡ Some c → Written b ws c
 letter-written b ws c e =
     ⊎-elim
@@ -72,7 +84,17 @@ letter-written b ws c e =
     let e = sym (cond-false _ _ _ f) ∙ e in
     ⊎-elim
     (λ t. is 82 t (look-written ws c (sym (cond-true _ _ _ t) ∙ e)))
+    (λ f.
+    let e = sym (cond-false _ _ _ f) ∙ e in
+    ⊎-elim
+    (λ t. is 75 t (strike-written ws c (sym (cond-true _ _ _ t) ∙ e)))
+    (λ f.
+    let e = sym (cond-false _ _ _ f) ∙ e in
+    ⊎-elim
+    (λ t. is 80 t (partner-written ws c (sym (cond-true _ _ _ t) ∙ e)))
     (λ f. none-some c (sym (cond-false _ _ _ f) ∙ e))
+    (cases-bool (eqb b 80)))
+    (cases-bool (eqb b 75)))
     (cases-bool (eqb b 82)))
     (cases-bool (eqb b 83)))
     (cases-bool (eqb b 69)))
@@ -108,6 +130,9 @@ letter-reads (Enter n k m x y z) s =
     ∙ step-back number-form z _ _ (s .4)
 letter-reads (Settle b) s = step-back number-form b _ _ s
 letter-reads (Look r) s = step-back number-form r _ _ s
+letter-reads (Strike n) s = step-back number-form n _ _ s
+letter-reads (Partner n x z) s =
+    step-back number-form n _ _ (s .0) ∙ step-back pattern-form x _ _ (s .1) ∙ step-back pattern-form z _ _ (s .2)
 
 -- a command that is written is read
 writes-command : (c : Command) → Sized c → command-of (line-of c) ≡ Some c
@@ -121,6 +146,10 @@ writes-command (Enter n k m x y z) s =
     ∙ letter-reads (Enter n k m x y z) s
 writes-command (Settle b) s = ap (by-letter 83) (words-back _ [] (number-form .clear b s) tt) ∙ letter-reads (Settle b) s
 writes-command (Look r) s = ap (by-letter 82) (words-back _ [] (number-form .clear r s) tt) ∙ letter-reads (Look r) s
+writes-command (Strike n) s = ap (by-letter 75) (words-back _ [] (number-form .clear n s) tt) ∙ letter-reads (Strike n) s
+writes-command (Partner n x z) s =
+    ap (by-letter 80) (words-back _ _ (number-form .clear n (s .0)) (pattern-form .clear x (s .1), (pattern-form .clear z (s .2), tt)))
+    ∙ letter-reads (Partner n x z) s
 
 pub read-law : (xs : List ℕ) (o : Option Command) → o ≡ command-of xs → Reads xs o
 read-law xs None e = λ c s w. none-some c (e ∙ ap command-of (sym w) ∙ writes-command c s)

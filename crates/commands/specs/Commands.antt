@@ -11,7 +11,7 @@ use Rattle.catalogue.specs.declared.types.Kind.the-variants.{Sum, Difference, P
 use Rattle.words.specs.Numbers.{number-of, pattern-of}
 use Rattle.words.specs.Words.{after, words}
 use Rattle.commands.specs.declared.Command.{Command}
-use Rattle.commands.specs.declared.Command.the-variants.{Limit, Enter, Settle, Look}
+use Rattle.commands.specs.declared.Command.the-variants.{Limit, Enter, Settle, Look, Strike, Partner}
 
 -- goes on with what was read, if it was
 abbrev pub then : {A B : Type 0} → Option A → (A → Option B) → Option B
@@ -72,10 +72,25 @@ settle-of ws = word number-of ws (λ budget ws. last ws (Settle budget))
 abbrev pub look-of : List (List ℕ) → Option Command
 look-of ws = word number-of ws (λ register ws. last ws (Look register))
 
--- the letters of the commands: L, E, S and R
+abbrev pub strike-of : List (List ℕ) → Option Command
+strike-of ws = word number-of ws (λ place ws. last ws (Strike place))
+
+abbrev pub partner-of : List (List ℕ) → Option Command
+partner-of ws =
+    word number-of ws (λ place ws.
+    word pattern-of ws (λ x ws.
+    word pattern-of ws (λ z ws.
+    last ws (Partner place x z))))
+
+-- the letters of the commands: L, E, S, R, K and P
 abbrev pub by-letter : ℕ → List (List ℕ) → Option Command
 by-letter b ws =
-    cond (eqb b 76) (limit-of ws) (cond (eqb b 69) (enter-of ws) (cond (eqb b 83) (settle-of ws) (cond (eqb b 82) (look-of ws) None)))
+    cond (eqb b 76) (limit-of ws)
+    (cond (eqb b 69) (enter-of ws)
+    (cond (eqb b 83) (settle-of ws)
+    (cond (eqb b 82) (look-of ws)
+    (cond (eqb b 75) (strike-of ws)
+    (cond (eqb b 80) (partner-of ws) None)))))
 
 -- None is a line that stands for no command
 abbrev pub command-of : List ℕ → Option Command

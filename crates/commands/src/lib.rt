@@ -1,6 +1,6 @@
 //! The commands of a script, and the reader that makes one of a line.
 
-ghost use Rattle.commands.specs.Commands.{by-letter, command-of, enter-of, kind-by-letter, kind-of, left, limit-of, look-of, none-left, settle-of, taken};
+ghost use Rattle.commands.specs.Commands.{by-letter, command-of, enter-of, kind-by-letter, kind-of, left, limit-of, look-of, none-left, partner-of, settle-of, strike-of, taken};
 ghost use Rattle.commands.specs.Lines.{Reads};
 ghost use Rattle.std.specs.Options.{Cases as BySome, mapped};
 ghost use Rattle.words.specs.Numbers.{number-of, pattern-of};
@@ -34,6 +34,14 @@ pub enum Command {
     Look {
         register: u32,
     },
+    Strike {
+        place: u32,
+    },
+    Partner {
+        place: u32,
+        x: u32,
+        z: u32,
+    },
 }
 
 /// The command that a line stands for, if it stands for one.
@@ -56,6 +64,8 @@ fn lettered(letter: char, text: &[u8]) -> Option<Command>
         'E' => enter(text),
         'S' => settle(text),
         'R' => look(text),
+        'K' => strike(text),
+        'P' => partner(text),
         _ => None,
     }
 }
@@ -112,6 +122,26 @@ fn look(text: &[u8]) -> Option<Command>
     let (register, rest) = first_number(text)?;
     no_more(rest)?;
     Some(Command::Look { register })
+}
+
+/// `K place`, without the letter.
+fn strike(text: &[u8]) -> Option<Command>
+    ensures { λ r. ⌜ r ≡ strike-of (words (now (text .entry))) ⌝ }
+{
+    let (place, rest) = first_number(text)?;
+    no_more(rest)?;
+    Some(Command::Strike { place })
+}
+
+/// `P place x z`, without the letter.
+fn partner(text: &[u8]) -> Option<Command>
+    ensures { λ r. ⌜ r ≡ partner-of (words (now (text .entry))) ⌝ }
+{
+    let (place, rest) = first_number(text)?;
+    let (x, rest) = next_pattern(rest)?;
+    let (z, rest) = next_pattern(rest)?;
+    no_more(rest)?;
+    Some(Command::Partner { place, x, z })
 }
 
 /// None where a further word follows.

@@ -1,4 +1,4 @@
-use mathlib.Core.Path.{_≡_, sym, _∙_}
+use mathlib.Core.Path.{_≡_}
 use borrow.Author.Needs.{needs}
 use Rattle.std.specs.declared.option.Option.the-variants.{None}
 use Rattle.commands.specs.Commands.{command-of}
@@ -8,8 +8,7 @@ use Rattle.commands.proofs.read.Needs as need
 
 pub returns-in-32 : need.returns-in-32
 returns-in-32 c =
-    let e = command-at (c .args .line .now) (search needs) (search needs) in
-    let v = rw (c .from .ensures) at (c .lettered .ensures) ∙ sym e in
+    let v = command-at (c .args .line .now) _ (search needs) (search needs) (rw (c .from .ensures) at (c .lettered .ensures)) in
     record { value = v; reads = read-law _ _ v }
 
 pub returns-in-rest : need.returns-in-rest
