@@ -718,11 +718,11 @@ def shown_at_rest(script):
 
 class LongUse(unittest.TestCase):
     def script(self, name):
-        return read("tools", "tasks", name).decode().split("\n")[:-1]
+        return read("crates", "long_use", "data", name).decode().split("\n")[:-1]
 
     def test_files(self):
         for name, text in make_long_use.scripts().items():
-            self.assertEqual(text.encode(), read("tools", "tasks", name))
+            self.assertEqual(text.encode(), read("crates", "long_use", "data", name))
             self.assertLess(len(text), 60000)
 
     def test_a_long_used_sheet_beside_a_new_one(self):

@@ -1,5 +1,5 @@
 #!/usr/bin/env python3
-"""Writes long_use_b.txt and long_use_c.txt beside itself: scripts in which one
+"""Writes crates/long_use/data/long_use_b.txt and long_use_c.txt: scripts in which one
 sheet is used for long, over binary32 and over the counter.
 
     python3 tools/tasks/make_long_use.py
@@ -252,7 +252,8 @@ def scripts():
 
 
 if __name__ == "__main__":
-    here = os.path.dirname(os.path.abspath(__file__))
+    root = os.path.dirname(os.path.dirname(os.path.dirname(os.path.abspath(__file__))))
+    data = os.path.join(root, "crates", "long_use", "data")
     for name, text in scripts().items():
-        with open(os.path.join(here, name), "w", newline="\n") as file:
+        with open(os.path.join(data, name), "w", newline="\n") as file:
             file.write(text)
