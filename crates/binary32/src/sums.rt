@@ -45,21 +45,23 @@ impl Location {
     fn from_zero(self) -> u32
         ensures { λ r. ⌜ r ≡ from-zero (self .rank) (self .rest) ⌝ }
     {
-        match self.rest {
-            Rest::Exact => self.raised(0),
-            Rest::BelowMiddle | Rest::Middle | Rest::AboveMiddle => self.raised(1),
-        }
+        let up = match self.rest {
+            Rest::Exact => 0,
+            Rest::BelowMiddle | Rest::Middle | Rest::AboveMiddle => 1,
+        };
+        self.raised(up)
     }
 
     /// The nearest magnitude, at a tie the even one.
     fn nearest(self) -> u32
         ensures { λ r. ⌜ r ≡ to-nearest (self .rank) (self .rest) ⌝ }
     {
-        match self.rest {
-            Rest::Exact | Rest::BelowMiddle => self.raised(0),
-            Rest::Middle => self.raised(self.rank % 2),
-            Rest::AboveMiddle => self.raised(1),
-        }
+        let up = match self.rest {
+            Rest::Exact | Rest::BelowMiddle => 0,
+            Rest::Middle => self.rank % 2,
+            Rest::AboveMiddle => 1,
+        };
+        self.raised(up)
     }
 }
 
