@@ -46,10 +46,9 @@ impl Location {
     fn nearest(self) -> u32
         ensures { λ r. ⌜ r ≡ to-nearest (self .rank) (self .rest) ⌝ }
     {
-        let up = match self.rest {
-            Rest::Exact | Rest::BelowMiddle => 0,
-            Rest::Middle => self.rank % 2,
-            Rest::AboveMiddle => 1,
+        let up = match (self.rest, self.rank % 2 == 1) {
+            (Rest::AboveMiddle, _) | (Rest::Middle, true) => 1,
+            (Rest::Exact | Rest::BelowMiddle, _) | (Rest::Middle, false) => 0,
         };
         self.raised(up, BEYOND)
     }
