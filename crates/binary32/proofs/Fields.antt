@@ -1,17 +1,16 @@
 -- Patterns are read and written back and forth
-use Prim.Native.Nat.{ℕ, zero, suc, _+_, _*_, _/_, _%_, _^_, _<_, _≤_}
-use mathlib.Core.Bool.{Bool, true, false, cond}
+use Prim.Native.Nat.{ℕ, zero, suc, _+_, _*_, _/_, _^_, _<_, _≤_}
+use mathlib.Core.Bool.{Bool, true, false}
 use mathlib.Core.Path.{_≡_, refl, sym, ap, subst, _∙_}
 use mathlib.Core.Logic.{_≢_, ⊎-elim}
 use native.Mathlib.Omega.{arith}
 use lib.Dec.{eqb}
 use lib.IntN.{ℤ, pos, negsuc, negℤ}
-use lib.Signed.{_≤ℤ_}
 use Rattle.std.specs.declared.option.Option.{Option}
 use Rattle.std.specs.declared.option.Option.the-variants.{Some, None}
 use Rattle.std.proofs.shelf.Signed.{ints}
-use Rattle.std.proofs.shelf.Tests.{cases-bool, cases-lt, cond-both, cond-false, eqb-true, eqb-false, eq-eqb, ne-eqb}
-use Rattle.binary32.specs.Units.{largest, beyond, with-sign, Reading}
+use Rattle.std.proofs.shelf.Tests.{cases-lt, cond-both, cond-false, eqb-true, eqb-false, eq-eqb, ne-eqb}
+use Rattle.binary32.specs.Units.{beyond, with-sign, Reading}
 use Rattle.binary32.specs.Patterns.{sign-bit, exponent-field, fraction, rank-of, read, write}
 
 abbrev magnitude-of : ℕ → ℕ

@@ -1,18 +1,17 @@
 -- A magnitude has one location, and what each rounding makes of it never falls as the magnitude grows
-use Prim.Native.Nat.{ℕ, zero, suc, _+_, _-_, _*_, _/_, _%_, _^_, _<_, _≤_, min}
-use mathlib.Core.Bool.{Bool, true, false, cond}
-use mathlib.Core.Path.{_≡_, refl, sym, ap, subst, _∙_}
-use mathlib.Core.Logic.{_⊎_, inl, inr, ⊎-elim}
+use Prim.Native.Nat.{ℕ, suc, _+_, _-_, _*_, _/_, _^_, _<_, _≤_, min}
+use mathlib.Core.Path.{_≡_, refl, subst}
+use mathlib.Core.Logic.{_⊎_, ⊎-elim}
 use native.Mathlib.Omega.{arith}
 use lib.Dec.{eqb, ltb}
 use lib.Pow.{pow-pos}
-use Rattle.std.proofs.shelf.Tests.{cases-lt, cases-bool, cond-true, cond-false, eqb-true, eqb-false, ltb-true, ltb-false, cond-both}
+use Rattle.std.proofs.shelf.Tests.{cases-lt, eqb-true, eqb-false, ltb-true, ltb-false, cond-both}
 use Rattle.binary32.specs.declared.types.Rest.{Rest}
 use Rattle.binary32.specs.declared.types.Rest.the-variants.{Exact, BelowMiddle, Middle, AboveMiddle}
-use Rattle.binary32.specs.Units.{units, beyond, largest}
+use Rattle.binary32.specs.Units.{units, beyond}
 use Rattle.binary32.specs.Locations.{Lies}
 use Rattle.binary32.specs.Computed.{floor-of, rest-of, toward-zero, from-zero, to-nearest}
-use Rattle.binary32.proofs.Floors.{Floor, floor-is, floor-iff, floor-unique, units-suc, units-le, units-lt}
+use Rattle.binary32.proofs.Floors.{Floor, floor-is, floor-iff, floor-unique, units-suc}
 
 pub step : (t : ℕ) → units t < units (suc t)
 step t = omega (arith, units-suc t, pow-pos (t / 2 ^ 23 - 1))

@@ -1,9 +1,8 @@
 -- What stands of the binary32 arithmetic, and the laws of its catalogue
-use Prim.Native.Nat.{ℕ, suc, _<_, _≤_}
-use mathlib.Core.Path.{_≡_, refl, sym, ap, subst, _∙_, fun-ext}
+use mathlib.Core.Path.{refl}
 use native.Mathlib.Omega.{arith}
 use lib.Dec.{lit<}
-use lib.IntN.{ℤ, pos, negsuc, negℤ, _+ℤ_}
+use lib.IntN.{ℤ}
 use lib.Signed.{_≤ℤ_}
 use Rattle.std.proofs.shelf.Signed.{ints, clamps}
 use Rattle.catalogue.specs.declared.types.Kind.{Kind}
@@ -13,7 +12,7 @@ use Rattle.catalogue.specs.Operations.{ArithLaws, In-order, falls-in-y}
 use Rattle.catalogue.specs.Meanings.{Laws}
 use Rattle.catalogue.proofs.Ranked.{ranked-laws}
 use Rattle.catalogue.proofs.Sets.{least-le, greatest-ge, least-reached, greatest-reached}
-use Rattle.binary32.specs.Units.{units, value}
+use Rattle.binary32.specs.Units.{units}
 use Rattle.binary32.specs.Patterns.{read, write}
 use Rattle.binary32.specs.Computed.{rounded}
 use Rattle.binary32.specs.Binary32.{result-of, binary32, binary}

@@ -1,20 +1,16 @@
-use Prim.Native.Nat.{ℕ, zero, suc, _+_, _-_, _*_, _/_, _%_, _^_, _<_, _≤_, min}
-use mathlib.Core.Bool.{Bool, true, false, cond}
-use mathlib.Core.Path.{_≡_, refl, sym, ap, subst, _∙_}
-use mathlib.Core.Logic.{_⊎_, inl, inr, ⊎-elim}
+-- Values of ranks rise with the ranks, and roundings never fall as the exact number grows
+use Prim.Native.Nat.{ℕ, zero, suc, _≤_}
+use mathlib.Core.Bool.{Bool, true, false}
+use mathlib.Core.Path.{_≡_, refl, sym}
 use native.Mathlib.Omega.{arith}
-use lib.IntN.{ℤ, pos, negsuc, negℤ, _+ℤ_, _-ℤ_, natAbs, negℤ-negℤ}
-use lib.Signed.{_≤ℤ_, _<ℤ_}
-use Rattle.std.proofs.shelf.Tests.{cases-lt}
+use lib.IntN.{ℤ, pos, negsuc, negℤ, negℤ-negℤ}
+use lib.Signed.{_≤ℤ_}
 use Rattle.std.proofs.shelf.Signed.{ints}
-use Rattle.binary32.specs.declared.types.Rest.{Rest}
-use Rattle.binary32.specs.declared.types.Rest.the-variants.{Exact, BelowMiddle, Middle, AboveMiddle}
 use Rattle.catalogue.specs.declared.types.Mode.{Mode}
 use Rattle.catalogue.specs.declared.types.Mode.the-variants.{Nearest, Up, Down, TowardZero}
-use Rattle.binary32.specs.Units.{units, beyond, largest, value}
-use Rattle.binary32.specs.Locations.{Lies}
-use Rattle.binary32.specs.Computed.{floor-of, rest-of, toward-zero, from-zero, to-nearest, magnitude-by, rounded}
-use Rattle.binary32.proofs.Floors.{Floor, floor-is, floor-iff, floor-unique, units-suc, units-le, units-lt, units-low}
+use Rattle.binary32.specs.Units.{units, value}
+use Rattle.binary32.specs.Computed.{floor-of, rest-of, magnitude-by, rounded}
+use Rattle.binary32.proofs.Floors.{units-le, units-low}
 use Rattle.binary32.proofs.Located.{rest-lies, toward-mono, away-mono, nearer-mono}
 
 module _ (a b : ℕ) (le : a ≤ b) where

@@ -1,6 +1,6 @@
 -- Patterns: the three fields of 32 bits, the rank that they stand for, and the pattern by which a rank is written.
 use Prim.Native.Nat.{ℕ, suc, _+_, _*_, _/_, _%_, _^_, min}
-use mathlib.Core.Bool.{Bool, cond}
+use mathlib.Core.Bool.{cond}
 use lib.Dec.{eqb}
 use lib.IntN.{ℤ, pos, negsuc}
 use Rattle.std.specs.declared.option.Option.{Option}

@@ -2,11 +2,10 @@ use Prim.Native.Nat.{ℕ, _<_, _*_, _^_}
 use mathlib.Core.Path.{ap, sym, subst, _∙_}
 use native.Mathlib.Nat.{zero-mul}
 use native.Mathlib.Omega.{arith}
-use Rattle.binary32.specs.declared.types.Rest.{Rest}
 use Rattle.binary32.specs.Units.{units}
 use Rattle.binary32.specs.Locations.{Lies}
 use Rattle.binary32.proofs.Floors.{units-low}
-use Rattle.binary32.proofs.Scaled.{wide, up-top, up-exact, down-kept, down-back, down-half, down-lies}
+use Rattle.binary32.proofs.Scaled.{wide, up-top, up-exact, down-kept, down-lies}
 use Rattle.binary32.proofs.magnitudes.locate_scaled.Needs as need
 
 pub returns-then-sum-eq0 : need.returns-then-sum-eq0

@@ -5,7 +5,7 @@ use native.Mathlib.Omega.{arith}
 use borrow.Author.Needs.{needs}
 use mir.Syntax.{w32}
 use mir.Val.{SFits, toZ, ofZ}
-use Rattle.std.proofs.shelf.Signed.{ints, toZ-ofZ}
+use Rattle.std.proofs.shelf.Signed.{toZ-ofZ}
 use Rattle.binary32.specs.Locations.{Locates}
 use Rattle.binary32.proofs.Signs.{pair-sum, pair-reading, sum-located}
 use Rattle.binary32.proofs.sums.exact_sum.Needs as need
