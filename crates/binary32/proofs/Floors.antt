@@ -136,6 +136,3 @@ floor-iff n t m f h = ⊎-elim (λ (l : t < m). absurd (contra l)) (λ l. l) (ca
 
 pub floor-unique : (n t s : ℕ) → Floor n t → Floor n s → t ≡ s
 floor-unique n t s f g = omega (arith, floor-iff n t s f (g .le), floor-iff n s t g (f .le))
-
-pub floor-mono : (a b : ℕ) → a ≤ b → floor-of a ≤ floor-of b
-floor-mono a b h = floor-iff b (floor-of b) (floor-of a) (floor-is b) (omega (arith, floor-is a .le))

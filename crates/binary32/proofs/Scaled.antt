@@ -3,7 +3,7 @@ use Prim.Native.Nat.{ℕ, suc, _+_, _-_, _*_, _/_, _^_, _<_, _≤_, min}
 use mathlib.Core.Path.{_≡_, sym, ap, subst, _∙_}
 use mathlib.Core.Logic.{⊎-elim}
 use native.Mathlib.Omega.{arith}
-use native.Mathlib.Nat.{mul-assoc, mul-comm, add-mul, two-pow-succ, mul-lt-mul-of-pos-right, mul-le-mul-right, mul-div-mul-right, div-add-mod', mul-pos, zero-mul, mod-lt, lt-of-lt-of-le, div-mul-le-self, one-mul}
+use native.Mathlib.Nat.{mul-assoc, mul-comm, add-mul, two-pow-succ, mul-lt-mul-of-pos-right, mul-le-mul-right, mul-div-mul-right, div-add-mod', mul-pos, zero-mul, mod-lt, lt-of-lt-of-le, one-mul}
 use lib.Pow.{pow-pos, pow-add, pow-mono}
 use Rattle.std.proofs.shelf.Tests.{cases-lt}
 use Rattle.binary32.specs.declared.types.Rest.{Rest}
@@ -121,15 +121,6 @@ module _ (s k w : ℕ) (f : Wide s w) (pos : 0 < s) (many : 24 < w) (ku : k < 25
 
   pub down-kept : s / 2 ^ (w - 24) < 2 ^ 24
   down-kept = shr-below s 24 (w - 24) down-top
-
-  fits : s < 2 ^ 64
-  fits = lt-of-lt-of-le (f .under) (pow-mono (f .most))
-
-  pub down-back : s / 2 ^ (w - 24) * 2 ^ (w - 24) ≤ s
-  down-back = div-mul-le-self s (2 ^ (w - 24))
-
-  pub down-half : 1 * 2 ^ (w - 24 - 1) < 2 ^ 64
-  down-half = let l : w - 24 - 1 ≤ 63 = omega (arith, f .most) in omega (arith, pow-mono l)
 
   pub down-lies : (r : Rest) → Drops (s - s / 2 ^ (w - 24) * 2 ^ (w - 24)) (1 * 2 ^ (w - 24 - 1)) r
       → Lies (s * 2 ^ k) ((k + (w - 24)) * 2 ^ 23 + s / 2 ^ (w - 24)) r

@@ -1,5 +1,5 @@
 -- The computed roundings are those of the standard's words
-use Prim.Native.Nat.{ℕ, suc, _+_, _-_, _*_, _/_, _%_, _^_, _<_, _≤_, min}
+use Prim.Native.Nat.{ℕ, suc, _+_, _-_, _*_, _%_, _^_, _<_, _≤_, min}
 use mathlib.Core.Path.{_≡_, refl, sym, ap, subst, _∙_}
 use mathlib.Core.Logic.{_⊎_, inl, inr, ⊎-elim, _≢_}
 use native.Mathlib.Omega.{arith}
@@ -21,7 +21,8 @@ use Rattle.binary32.proofs.Whole.{value-neg}
 
 -- ---- magnitudes
 
-pub record TowardIs (n u : ℕ) : Type 0 where
+-- the greatest reading's magnitude at or below n units
+record TowardIs (n u : ℕ) : Type 0 where
   pub reading : u < beyond
   pub below : units u ≤ n
   pub most : (m : ℕ) → m < beyond → units m ≤ n → m ≤ u
@@ -34,12 +35,14 @@ toward-is n t r c =
       most = λ m h l. omega (arith, floor-iff n t m f l);
     }
 
-pub record AwayIs (n v : ℕ) : Type 0 where
+-- the least at or above, where it is a reading's
+record AwayIs (n v : ℕ) : Type 0 where
   pub reading : v < beyond
   pub above : n ≤ units v
   pub least : (m : ℕ) → n ≤ units m → v ≤ m
 
-pub record CeilIs (n v : ℕ) : Type 0 where
+-- the least at or above, of a reading or not
+record CeilIs (n v : ℕ) : Type 0 where
   pub above : n ≤ units v
   pub least : (m : ℕ) → n ≤ units m → v ≤ m
 
@@ -155,7 +158,8 @@ down-neg n t r c = ⊎-elim
 abbrev gap : ℕ → ℕ → ℕ
 gap a b = (a - b) + (b - a)
 
-pub record NearIs (n v : ℕ) : Type 0 where
+-- the nearest magnitude, at a tie the even one
+record NearIs (n v : ℕ) : Type 0 where
   pub nearest : (m : ℕ) → gap n (units v) ≤ gap n (units m)
   pub even : (m : ℕ) → (m ≡ v → ⊥) → gap n (units v) ≡ gap n (units m) → v % 2 ≡ 0
 
@@ -219,7 +223,7 @@ units-largest = refl
 at-beyond : (t : ℕ) → t ≡ largest → (units t + 2 ^ 277 ≡ 2 * overflow) × (units (suc t) ≡ 2 ^ 277)
 at-beyond t e = (omega (arith, units-largest, ap units e), ap (λ (x : ℕ). units (suc x)) e ∙ units-beyond)
 
--- a magnitude below the overflow is nearest to a reading, and any other to what lies beyond
+-- a magnitude below the overflow limit is nearest to a reading, and any other to what lies beyond
 module _ (n t : ℕ) where
   past : beyond ≤ t → 2 ^ 277 ≤ units t
   past h = omega (arith, units-le beyond t h, units-beyond)
@@ -327,7 +331,7 @@ down-one e r s (inl p) (inr q) = absurd (let a = q .1 r (p .reading) in let b = 
 down-one e r s (inr p) (inl q) = absurd (let a = p .1 s (q .reading) in let b = q .below in omega (arith, ints))
 down-one e r s (inr p) (inr q) = p .0 ∙ sym (q .0)
 
--- of two even ranks the one between is nearest
+-- of two even ranks the one between is nearer
 apart : (e r s : ℤ) → NearestToEven e r → NearestToEven e s → r <ℤ s → ⊥
 apart e r s p q h =
     let d : distance e r ≡ distance e s = omega (arith, p .nearest s (q .reading), q .nearest r (p .reading)) in

@@ -1,6 +1,6 @@
 -- Computed: the four roundings in closed form, proved to be those of Rounding.
 use Prim.Native.Nat.{ℕ, suc, _+_, _-_, _*_, _/_, _%_, _^_, min}
-use mathlib.Core.Bool.{Bool, true, false, cond}
+use mathlib.Core.Bool.{Bool, true, false, cond, not}
 use lib.Dec.{eqb, ltb}
 use lib.Ieee.{size}
 use lib.IntN.{ℤ, pos, negsuc, negℤ}
@@ -40,14 +40,16 @@ to-nearest t BelowMiddle = min t beyond
 to-nearest t Middle = min (t + t % 2) beyond
 to-nearest t AboveMiddle = min (t + 1) beyond
 
--- by mode and sign
+abbrev pub directed-to : Bool → ℕ → Rest → ℕ
+directed-to true t r = from-zero t r
+directed-to false t r = toward-zero t r
+
+-- by mode and sign: up is away from zero for positive numbers, and down for negative ones
 abbrev pub magnitude-by : Mode → Bool → ℕ → Rest → ℕ
-magnitude-by Nearest b t r = to-nearest t r
-magnitude-by Up false t r = from-zero t r
-magnitude-by Up true t r = toward-zero t r
-magnitude-by Down false t r = toward-zero t r
-magnitude-by Down true t r = from-zero t r
-magnitude-by TowardZero b t r = toward-zero t r
+magnitude-by Nearest negative t r = to-nearest t r
+magnitude-by Up negative t r = directed-to (not negative) t r
+magnitude-by Down negative t r = directed-to negative t r
+magnitude-by TowardZero negative t r = directed-to false t r
 
 -- the rank that a mode gives for an exact number of units
 unfoldable pub rounded : Mode → ℤ → ℤ

@@ -1,5 +1,5 @@
 -- Locations: where an exact magnitude lies among the magnitudes of ranks. All four roundings follow from it.
-use Prim.Native.Nat.{ℕ, suc, _+_, _-_, _*_, _/_, _^_, _<_, _≤_}
+use Prim.Native.Nat.{ℕ, suc, _+_, _-_, _*_, _^_, _<_}
 use mathlib.Core.Bool.{Bool, true, false, cond}
 use mathlib.Core.Path.{_≡_}
 use lib.IntN.{ℤ}

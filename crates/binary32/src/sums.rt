@@ -6,7 +6,7 @@ ghost use Rattle.catalogue.specs.Modes.{greater-if, greatest-of, has-mode, leas
 ghost use Rattle.catalogue.specs.Operations.{greatest-result, least-result};
 ghost use Rattle.binary32.specs.Units.{Reading, beyond, value};
 ghost use Rattle.binary32.specs.Locations.{Locates};
-ghost use Rattle.binary32.specs.Computed.{from-zero, magnitude-by, rank-by, to-nearest, toward-zero};
+ghost use Rattle.binary32.specs.Computed.{directed-to, magnitude-by, rank-by, to-nearest};
 ghost use Rattle.binary32.specs.Binary32.{binary32 as Arithmetic32};
 use crate::magnitudes::locate;
 use crate::readings::BEYOND;
@@ -22,44 +22,35 @@ use catalogue::types::Modes;
 use catalogue::types::Span;
 
 impl Location {
-    /// The magnitude toward zero, at most the largest reading's.
-    fn toward_zero(self) -> u32
-        ensures { λ r. ⌜ r ≡ toward-zero (self .rank) (self .rest) ⌝ }
+    /// The rank's magnitude, or the next where `up` is 1, but at most `end`.
+    fn raised(self, up: u32, end: u32) -> u32
+        requires { ⌜ up ≤ end ⌝ }
+        ensures { λ r. ⌜ r ≡ min (self .rank + up) end ⌝ }
     {
-        self.rank.min(LARGEST)
+        self.rank.min(end - up) + up
     }
 
-    /// The rank's magnitude or the next, and beyond from there on.
-    fn raised(self, up: u32) -> u32
-        requires { ⌜ up ≤ 1 ⌝ }
-        ensures { λ r. ⌜ r ≡ min (self .rank + up) beyond ⌝ }
+    /// The magnitude away from zero or toward it; only away from zero is there one beyond the readings.
+    fn directed(self, away: bool) -> u32
+        ensures { λ r. ⌜ r ≡ directed-to away (self .rank) (self .rest) ⌝ }
     {
-        if self.rank < BEYOND {
-            self.rank + up
-        } else {
-            BEYOND
-        }
-    }
-
-    /// The magnitude away from zero.
-    fn from_zero(self) -> u32
-        ensures { λ r. ⌜ r ≡ from-zero (self .rank) (self .rest) ⌝ }
-    {
-        match self.rest {
-            Rest::Exact => self.raised(0),
-            Rest::BelowMiddle | Rest::Middle | Rest::AboveMiddle => self.raised(1),
-        }
+        let up = match (away, self.rest) {
+            (false, _) | (true, Rest::Exact) => 0,
+            (true, Rest::BelowMiddle | Rest::Middle | Rest::AboveMiddle) => 1,
+        };
+        let end = if away { BEYOND } else { LARGEST };
+        self.raised(up, end)
     }
 
     /// The nearest magnitude, at a tie the even one.
     fn nearest(self) -> u32
         ensures { λ r. ⌜ r ≡ to-nearest (self .rank) (self .rest) ⌝ }
     {
-        match self.rest {
-            Rest::Exact | Rest::BelowMiddle => self.raised(0),
-            Rest::Middle => self.raised(self.rank % 2),
-            Rest::AboveMiddle => self.raised(1),
-        }
+        let up = match (self.rest, self.rank % 2 == 1) {
+            (Rest::AboveMiddle, _) | (Rest::Middle, true) => 1,
+            (Rest::Exact | Rest::BelowMiddle, _) | (Rest::Middle, false) => 0,
+        };
+        self.raised(up, BEYOND)
     }
 }
 
@@ -69,11 +60,11 @@ impl ExactSum {
         ensures { λ r. ⌜ r ≡ magnitude-by mode (self .negative) (self .location .rank) (self .location .rest) ⌝ }
     {
         let at = self.location;
-        match (mode, self.negative) {
-            (Mode::Nearest, _) => at.nearest(),
-            (Mode::Up, false) | (Mode::Down, true) => at.from_zero(),
-            (Mode::Up, true) | (Mode::Down, false) => at.toward_zero(),
-            (Mode::TowardZero, _) => at.toward_zero(),
+        match mode {
+            Mode::Nearest => at.nearest(),
+            Mode::Up => at.directed(!self.negative),
+            Mode::Down => at.directed(self.negative),
+            Mode::TowardZero => at.directed(false),
         }
     }
 
