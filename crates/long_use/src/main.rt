@@ -89,10 +89,31 @@ impl Ledger {
     /// Carries out a command of a script.
     fn carry_out<C: Catalogue>(&mut self, sheet: &mut Sheet<C>, command: Command) {
         match command {
-            Command::Limit { register, low, high } => self.limit(sheet, register, Limits { low, high }),
-            Command::Enter { place, kind, modes, x, y, z } => {
+            Command::Limit {
+                register,
+                low,
+                high,
+            } => self.limit(sheet, register, Limits { low, high }),
+            Command::Enter {
+                place,
+                kind,
+                modes,
+                x,
+                y,
+                z,
+            } => {
                 let kind = u32::from(kind_number(kind));
-                self.enter(sheet, place, Drawing { kind, modes, x, y, z });
+                self.enter(
+                    sheet,
+                    place,
+                    Drawing {
+                        kind,
+                        modes,
+                        x,
+                        y,
+                        z,
+                    },
+                );
             }
             Command::Strike { place } => self.strike(sheet, place),
             Command::Settle { budget } => {
@@ -174,7 +195,11 @@ enum Compared {
 
 fn compare<C: Catalogue>(used: &mut Sheet<C>, new: &mut Sheet<C>) -> Compared {
     match (settle_out(used), settle_out(new)) {
-        (Outcome::Settled, Outcome::Settled) => if show_the_same(used, new) { Compared::BothSettled } else { Compared::Different },
+        (Outcome::Settled, Outcome::Settled) => if show_the_same(used, new) {
+            Compared::BothSettled
+        } else {
+            Compared::Different
+        },
         (Outcome::Void, Outcome::Void) => Compared::BothVoid,
         (Outcome::Stopped, _) => Compared::NotAtRest,
         (_, Outcome::Stopped) => Compared::NotAtRest,
@@ -197,9 +222,17 @@ fn replay<C: Catalogue>(sheet: &mut Sheet<C>, script: &[u8]) -> Ledger {
     ledger
 }
 
-fn print_range(rt: &impl Print, register: u32, used: Option<(u32, u32)>, new: Option<(u32, u32)>) -> io::Result<()> {
+fn print_range(
+    rt: &impl Print,
+    register: u32,
+    used: Option<(u32, u32)>,
+    new: Option<(u32, u32)>,
+) -> io::Result<()> {
     match (used, new) {
-        (Some((a, b)), Some((c, d))) => println!(rt, "register {register}: used {a:08X} {b:08X}, new {c:08X} {d:08X}"),
+        (Some((a, b)), Some((c, d))) => println!(
+            rt,
+            "register {register}: used {a:08X} {b:08X}, new {c:08X} {d:08X}"
+        ),
         (None, None) => println!(rt, "register {register}: used void, new void"),
         _ => println!(rt, "register {register}: one of the two is void"),
     }
@@ -215,14 +248,23 @@ fn print_compared(rt: &impl Print, compared: Compared) -> io::Result<()> {
 }
 
 /// A script replayed on one sheet, beside a new sheet with what stands at its end.
-fn replay_beside_new<C: Catalogue + Copy + Drop>(rt: &impl Print, catalogue: C, script: &[u8]) -> io::Result<()> {
+fn replay_beside_new<C: Catalogue + Copy + Drop>(
+    rt: &impl Print,
+    catalogue: C,
+    script: &[u8],
+) -> io::Result<()> {
     let (_board, commands) = line(script);
     let mut used = Sheet::new(catalogue);
     let ledger = replay(&mut used, commands);
     let mut new = ledger.renewed(catalogue);
     let compared = compare(&mut used, &mut new);
     for register in 0..32 {
-        print_range(rt, register, look_at(&used, register), look_at(&new, register))?;
+        print_range(
+            rt,
+            register,
+            look_at(&used, register),
+            look_at(&new, register),
+        )?;
     }
     print_compared(rt, compared)
 }
@@ -236,7 +278,9 @@ struct Numbers {
 impl Numbers {
     /// A number below `limit`, which counts as 1 where it is 0.
     fn below(&mut self, limit: u32) -> u32 {
-        self.state = self.state.wrapping_mul(6_364_136_223_846_793_005).wrapping_add(1_442_695_040_888_963_407);
+        self.state = self.state
+            .wrapping_mul(6_364_136_223_846_793_005)
+            .wrapping_add(1_442_695_040_888_963_407);
         ((self.state >> 33) % u64::from(limit.max(1))) as u32
     }
 }
@@ -252,7 +296,12 @@ fn limits_near(numbers: &mut Numbers, base: u32) -> Limits {
 }
 
 /// One change by the rule: a limit, an enter, a strike, and now and then a settle that may stop.
-fn change<C: Catalogue>(sheet: &mut Sheet<C>, ledger: &mut Ledger, numbers: &mut Numbers, base: u32) {
+fn change<C: Catalogue>(
+    sheet: &mut Sheet<C>,
+    ledger: &mut Ledger,
+    numbers: &mut Numbers,
+    base: u32,
+) {
     match numbers.below(8) {
         0 | 1 | 2 => {
             let register = numbers.below(12);
@@ -323,8 +372,16 @@ fn soak<C: Catalogue + Copy + Drop>(catalogue: C, base: u32) -> Counts {
 }
 
 fn print_counts(rt: &impl Print, name: &str, counts: Counts) -> io::Result<()> {
-    let Counts { settled, void, not_at_rest, different } = counts;
-    println!(rt, "{name}: 100000 changes, 100 comparisons: {settled} settled and alike, {void} void and alike, {not_at_rest} not at rest, {different} different")
+    let Counts {
+        settled,
+        void,
+        not_at_rest,
+        different,
+    } = counts;
+    println!(
+        rt,
+        "{name}: 100000 changes, 100 comparisons: {settled} settled and alike, {void} void and alike, {not_at_rest} not at rest, {different} different"
+    )
 }
 
 fn main(rt: LibcRuntime) -> Result<(), AnyError> {

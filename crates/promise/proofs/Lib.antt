@@ -5,6 +5,7 @@ pub mod Remade
 pub mod Unmoving
 pub mod Sounds
 pub mod Cutting
+pub mod Declining
 pub mod Alone
 pub mod Resting
 pub mod Stepping

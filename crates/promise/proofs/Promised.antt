@@ -20,6 +20,7 @@ use Rattle.sheet.specs.Calls.{is-void}
 use Rattle.promise.specs.Histories.{Call, strike, enter, after, limits-of, line-at, Has-line}
 use Rattle.promise.specs.Promise.{Ranges, Assignment, given-to, Consistent, Inside, In-limits, Keeps, Shows, Same-lines, Same-limits, Alike, Rests, Promise, For-every-catalogue, settles, Consequences}
 use Rattle.sheet.specs.Rules.{range-at, at-rest}
+use Rattle.promise.proofs.Declining.{called-declined}
 use Rattle.promise.proofs.Recounting.{after-sound, entering-off, entering-own, striking-off, striking-own}
 use Rattle.promise.proofs.Remade.{passing}
 use Rattle.promise.proofs.Sounds.{Fixed, nowhere}
@@ -200,6 +201,7 @@ module _ (m : Meaning) (laws : Laws m) where
 
   pub consequences-kept : Consequences m
   consequences-kept = record {
+    declined = λ h k e. called-declined m k (after m h) e;
     any-budgets = λ h bs cs rb rc. same-rest (settles bs h) (settles cs h) rb rc
         (λ r _. settles-limits bs h r ∙ sym (settles-limits cs h r))
         (by-place (settles bs h) (settles cs h) (λ n. settles-lines bs h n ∙ sym (settles-lines cs h n)));

@@ -84,15 +84,15 @@ checked-passed d = by (kind-of (d .kind))
         (λ _. tt)
         (λ e. let modes = or-parts (eqb (d .modes) 0) (ltb 15 (d .modes)) e in
         cond-both (ltb 31 (d .x) || (ltb 31 (d .y) || ltb 31 (d .z))) (Err 1) (Ok l) Passed
-          (λ _. tt)
-          (λ f.
-          let x = or-parts (ltb 31 (d .x)) (ltb 31 (d .y) || ltb 31 (d .z)) f in
-          let yz = or-parts (ltb 31 (d .y)) (ltb 31 (d .z)) (x .1) in
-          let some = eqb-false (d .modes) 0 (modes .0) in
-          let few = ltb-false 15 (d .modes) (modes .1) in
-          let hx = ltb-false 31 (d .x) (x .0) in
-          let hy = ltb-false 31 (d .y) (yz .0) in
-          let hz = ltb-false 31 (d .z) (yz .1) in
-          and-from (ltb 0 (d .modes) && ltb (d .modes) 16) (ltb (d .x) 32 && (ltb (d .y) 32 && ltb (d .z) 32))
-            (and-from (ltb 0 (d .modes)) (ltb (d .modes) 16) (lt-ltb 0 (d .modes) (omega (arith, some))) (lt-ltb (d .modes) 16 (omega arith)))
-            (and-from (ltb (d .x) 32) (ltb (d .y) 32 && ltb (d .z) 32) (lt-ltb (d .x) 32 (omega arith)) (and-from (ltb (d .y) 32) (ltb (d .z) 32) (lt-ltb (d .y) 32 (omega arith)) (lt-ltb (d .z) 32 (omega arith))))))
+        (λ _. tt)
+        (λ f.
+        let x = or-parts (ltb 31 (d .x)) (ltb 31 (d .y) || ltb 31 (d .z)) f in
+        let yz = or-parts (ltb 31 (d .y)) (ltb 31 (d .z)) (x .1) in
+        let some = eqb-false (d .modes) 0 (modes .0) in
+        let few = ltb-false 15 (d .modes) (modes .1) in
+        let hx = ltb-false 31 (d .x) (x .0) in
+        let hy = ltb-false 31 (d .y) (yz .0) in
+        let hz = ltb-false 31 (d .z) (yz .1) in
+        and-from (ltb 0 (d .modes) && ltb (d .modes) 16) (ltb (d .x) 32 && (ltb (d .y) 32 && ltb (d .z) 32))
+        (and-from (ltb 0 (d .modes)) (ltb (d .modes) 16) (lt-ltb 0 (d .modes) (omega (arith, some))) (lt-ltb (d .modes) 16 (omega arith)))
+        (and-from (ltb (d .x) 32) (ltb (d .y) 32 && ltb (d .z) 32) (lt-ltb (d .x) 32 (omega arith)) (and-from (ltb (d .y) 32) (ltb (d .z) 32) (lt-ltb (d .y) 32 (omega arith)) (lt-ltb (d .z) 32 (omega arith))))))

@@ -13,7 +13,8 @@ use Rattle.catalogue.specs.declared.types.Range.{Range}
 use Rattle.catalogue.specs.Meanings.{Meaning, all-readings}
 use Rattle.sheet.specs.declared.lines.Line.{Line}
 use Rattle.sheet.specs.declared.table.Table.{Table}
-use Rattle.sheet.specs.Calls.{limit-asked, limit-table, line-table, strike-table, settle-table}
+use Rattle.sheet.specs.Calls.{is-void, limit-asked, limit-table, line-table, partner-asked, settle-asked, settle-table, strike-asked, strike-table}
+use Rattle.sheet.specs.Places.{has}
 use Rattle.sheet.specs.Rules.{new-table}
 
 -- a call, with any arguments; limit and partner are given patterns, and enter a line
@@ -37,6 +38,19 @@ called m (strike n) t = strike-table m n t
 called m (settle b) t = settle-table m b t
 called m look t = t
 called m (partner n x z) t = t
+
+-- whether a call is declined; an enter is declined too where its line does not pass the check
+abbrev pub is-refusal : {A : Type 0} → Result A ℕ → Bool
+is-refusal (Ok x) = false
+is-refusal (Err e) = true
+
+abbrev pub declines : Meaning → Call → Table → Bool
+declines m (limit r low high) t = is-refusal (limit-asked m r low high)
+declines m (enter n l) t = not (passes-check l) || (ltb 63 n || has (t .standing) n)
+declines m (strike n) t = is-refusal (strike-asked n t)
+declines m (settle b) t = is-refusal (settle-asked m b t)
+declines m look t = is-void (t .state)
+declines m (partner n x z) t = is-refusal (partner-asked m n x z t)
 
 abbrev pub after : Meaning → List Call → Table
 after m [] = new-table m

@@ -15,7 +15,7 @@ use Rattle.catalogue.specs.Ranges.{Holds, Within, Proper, meet}
 use Rattle.sheet.specs.declared.lines.Line.{Line}
 use Rattle.sheet.specs.declared.table.State.the-variants.{Settled, Open, Void}
 use Rattle.sheet.specs.declared.table.Table.{Table}
-use Rattle.promise.specs.Histories.{Call, settle, strike, enter, after, limits-of, line-at, Has-line}
+use Rattle.promise.specs.Histories.{Call, settle, strike, enter, after, declines, limits-of, line-at, Has-line}
 use Rattle.sheet.specs.Places.{has}
 use Rattle.sheet.specs.Rules.{range-at, at-rest}
 
@@ -114,6 +114,8 @@ abbrev pub settles : List ℕ → List Call → List Call
 settles bs h = map settle bs ++ h
 
 pub record Consequences (m : Meaning) : Type 0 where
+  -- a declined call changes nothing
+  pub declined : (h : List Call) (k : Call) → declines m k (after m h) ≡ true → after m (k ∷ h) ≡ after m h
   -- settling by any budgets reaches the same rest
   pub any-budgets : (h : List Call) (bs cs : List ℕ) → Rests m (settles bs h) → Rests m (settles cs h) → Alike (after m (settles bs h)) (after m (settles cs h))
   -- a line struck and entered again, at any free place, then settled: the sheet shows what it showed

@@ -19,4 +19,5 @@ returns g c =
       catalogue = search needs;
       history = λ h e. leads-on m laws k h t _ left e;
       promise = promise-kept m laws;
-      consequences = consequences-kept m laws }
+      consequences = consequences-kept m laws;
+    }
