@@ -12,6 +12,7 @@ use Rattle.std.specs.declared.result.Result.the-variants.{Ok, Err}
 use Rattle.catalogue.specs.declared.types.Range.{Range}
 use Rattle.catalogue.specs.declared.types.Refusal.{Refusal}
 use Rattle.catalogue.specs.Meanings.{Meaning}
+use Rattle.catalogue.specs.Partners.{SomeOf}
 use Rattle.catalogue.specs.Refusals.{number-of}
 use Rattle.sheet.specs.declared.lines.CheckedLine.{CheckedLine}
 use Rattle.sheet.specs.declared.lines.Line.{Line}
@@ -158,6 +159,10 @@ pattern-or-none m (Some y) = Some (m .writes y)
 
 abbrev pub named-partner : Meaning → Line → ℤ × ℤ → Table → Option ℤ
 named-partner m l p t = m .partner (l .kind) (l .modes) (p .0) (p .1) (range-at t (l .y))
+
+-- the choice of y is free but for this: some rank of y's shown range that makes an allowed triple with x and z, none exactly if there is none
+abbrev pub Partnered : Meaning → Line → ℤ × ℤ → Table → Type 0
+Partnered m l p t = SomeOf (range-at t (l .y)) (λ y. m .allowed (l .kind) (l .modes) (p .0) y (p .1)) (named-partner m l p t)
 
 abbrev pub partner-of : Meaning → Result Line ℕ → Result (ℤ × ℤ) ℕ → Table → Result (Option ℕ) ℕ
 partner-of m (Err e) p t = Err 7

@@ -1,7 +1,9 @@
 ghost use Prim.Native.Nat.{ℕ, _<_};
 ghost use mathlib.Core.Path.{_≡_};
+ghost use lib.IntN.{ℤ};
 ghost use Rattle.catalogue.specs.Refusals.{numbered};
-ghost use Rattle.sheet.specs.Calls.{Steps, bad-budget, both-read, done, ended-in, enter-answer, enter-asked, enter-table, in-patterns, is-settled, limit-asked, limit-table, look-answer, named-partner, no-line, outcome-number, partner-asked, pattern-or-none, run-answer, run-asked, settle-answer, settle-asked, settle-table, shown, strike-asked, strike-table};
+ghost use Rattle.sheet.specs.declared.lines.Line.{Line};
+ghost use Rattle.sheet.specs.Calls.{Partnered, Steps, bad-budget, both-read, done, ended-in, enter-answer, enter-asked, enter-table, in-patterns, is-settled, limit-asked, limit-table, look-answer, named-partner, no-line, outcome-number, partner-asked, pattern-or-none, run-answer, run-asked, settle-answer, settle-asked, settle-table, shown, strike-asked, strike-table};
 ghost use Rattle.sheet.specs.Places.{has};
 ghost use Rattle.sheet.specs.Rules.{new-table, settled, table-of};
 use crate::lines::CheckedLine;
@@ -156,8 +158,8 @@ impl<C: Catalogue> Sheet<C> {
         }
     }
 
-    /// Some y in the shown range of a line's y that makes an allowed triple with the patterns x and z, or none.
-    pub fn partner(&self, place: u32, x: u32, z: u32) -> Result<Option<u32>, Refusal>
+    /// The partner that the catalogue names, or why the call is declined.
+    fn named_partner(&self, place: u32, x: u32, z: u32) -> Result<Option<u32>, Refusal>
         ensures { λ r. ⌜ numbered r ≡ partner-asked (meaning (now (self .entry) .catalogue)) place x z (now (self .entry) .table) ⌝ }
     {
         if self.has_no_line(place) {
@@ -171,6 +173,14 @@ impl<C: Catalogue> Sheet<C> {
             State::Void => Err(Refusal::SheetVoid),
             State::Settled | State::Open => Ok(self.partner_of(&line, x, z)),
         }
+    }
+
+    /// Some y in the shown range of a line's y that makes an allowed triple with the patterns x and z, or none.
+    pub fn partner(&self, place: u32, x: u32, z: u32) -> Result<Option<u32>, Refusal>
+        ensures answer { λ r. ⌜ numbered r ≡ partner-asked (meaning (now (self .entry) .catalogue)) place x z (now (self .entry) .table) ⌝ }
+        ensures choice { λ _. ⌜ ((l : Line) (p : ℤ × ℤ) → Partnered (meaning (now (self .entry) .catalogue)) l p (now (self .entry) .table)) ⌝ }
+    {
+        self.named_partner(place, x, z)
     }
 
     /// Steps until rest or until the budget is spent, whatever the budget.
