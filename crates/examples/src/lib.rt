@@ -6,7 +6,7 @@ ghost use mathlib.Core.Path.{_≡_};
 /// How many worked examples there are; the contract proves each of them of the definitions.
 pub fn worked_examples() -> u32
     ensures list { λ _. ⌜ Worked ⌝ }
-    ensures count { λ r. ⌜ r ≡ 12 ⌝ }
+    ensures count { λ r. ⌜ r ≡ 20 ⌝ }
 {
-    12
+    20
 }

@@ -17,7 +17,7 @@ use Rattle.sheet.specs.Calls.{is-void, limit-asked, limit-table, line-table, pa
 use Rattle.sheet.specs.Places.{has}
 use Rattle.sheet.specs.Rules.{new-table}
 
--- a call, with any arguments; limit and partner are given patterns, and enter a line
+-- a call, with any arguments; limit and partner are given patterns, and enter a line; a look changes nothing, whichever register it shows
 pub data Call : Type 0 where
   limit : ℕ → ℕ → ℕ → Call
   enter : ℕ → Line → Call

@@ -26,7 +26,7 @@ use Rattle.commands.specs.Commands.{command-of}
 use Rattle.sheet.specs.declared.table.Table.{Table}
 use Rattle.sheet.specs.Rules.{new-table}
 use Rattle.words.specs.Lines.{lines}
-use Rattle.session.specs.Sessions.{Leads, answers, calls-of, drawn, entering, replied, table-after}
+use Rattle.session.specs.Sessions.{Leads, Told, answers, calls-of, calls-of-all, drawn, entering, replied, table-after, table-after-all}
 
 pub answers-more : (m n : Meaning) (t u : Table) (o p l r xs all : List ℕ) (a : Reply) → m ≡ n → p ≡ o ++ line-of a → a ≡ replied m (command-of l) t → u ≡ table-after m (command-of l) t → lines xs ≡ l ∷ lines r → o ++ answers m (lines xs) t ≡ all → p ++ answers n (lines r) u ≡ all
 answers-more m n t u o p l r xs all a en ep ea eu el e =
@@ -60,3 +60,20 @@ pub leads-on : (m : Meaning) → Laws m → (c : Option Command) (h : List Call)
 leads-on m laws c h t u e f =
     let here : u ≡ after m (calls-of c ++ h) = e ∙ ap (table-after m c) f ∙ command-after m c h in
     record { is = here; shows = subst (Shows m (calls-of c ++ h)) (sym here) (promise-kept m laws .shows (calls-of c ++ h)) }
+
+-- ---- a whole script
+told-from : (m : Meaning) → Laws m → (ls : List (List ℕ)) (h : List Call) (t : Table) → t ≡ after m h → Leads m (calls-of-all ls h) (table-after-all m ls t)
+told-from m laws [] h t e = record { is = e; shows = subst (Shows m h) (sym e) (promise-kept m laws .shows h) }
+told-from m laws (l ∷ ls) h t e = told-from m laws ls (calls-of (command-of l) ++ h) (table-after m (command-of l) t) (leads-on m laws (command-of l) h t (table-after m (command-of l) t) refl e .is)
+
+going-on : (m : Meaning) (ls ks : List (List ℕ)) (t : Table) → answers m (ls ++ ks) t ≡ answers m ls t ++ answers m ks (table-after-all m ls t)
+going-on m [] ks t = refl
+going-on m (l ∷ ls) ks t =
+    let a = line-of (replied m (command-of l) t) in
+    let u = table-after m (command-of l) t in
+    let rest = going-on m ls ks u in
+    let joined = append-assoc a (answers m ls u) (answers m ks (table-after-all m ls u)) in
+    ap (λ b. a ++ b) rest ∙ sym joined
+
+pub told : (m : Meaning) → Laws m → Told m
+told m laws = record { leads = λ ls. told-from m laws ls [] (new-table m) refl; goes-on = λ ls ks. going-on m ls ks (new-table m) }

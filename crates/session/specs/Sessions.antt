@@ -100,6 +100,20 @@ abbrev pub answers : Meaning → List (List ℕ) → Table → List ℕ
 answers m [] t = []
 answers m (l ∷ ls) t = line-of (replied m (command-of l) t) ++ answers m ls (table-after m (command-of l) t)
 
+-- the table that lines leave, and their calls, the newest first, before those of h
+abbrev pub table-after-all : Meaning → List (List ℕ) → Table → Table
+table-after-all m [] t = t
+table-after-all m (l ∷ ls) t = table-after-all m ls (table-after m (command-of l) t)
+
+abbrev pub calls-of-all : List (List ℕ) → List Call → List Call
+calls-of-all [] h = h
+calls-of-all (l ∷ ls) h = calls-of-all ls (calls-of (command-of l) ++ h)
+
+-- at every line of a script, the sheet is what the calls before it lead to, and what follows is answered on it
+pub record Told (m : Meaning) : Type 0 where
+  pub leads : (ls : List (List ℕ)) → Leads m (calls-of-all ls []) (table-after-all m ls (new-table m))
+  pub goes-on : (ls ks : List (List ℕ)) → answers m (ls ++ ks) (new-table m) ≡ answers m ls (new-table m) ++ answers m ks (table-after-all m ls (new-table m))
+
 -- the first line names the catalogue: B for binary32, C for counters
 abbrev pub board-of : List ℕ → Option Board
 board-of [] = None

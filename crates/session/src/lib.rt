@@ -11,7 +11,7 @@ ghost use Rattle.commands.specs.Commands.{command-of};
 ghost use Rattle.promise.specs.Histories.{Call, after};
 ghost use Rattle.promise.specs.Promise.{Consequences, Promise};
 ghost use Rattle.promise.specs.Shown.{show-asked};
-ghost use Rattle.session.specs.Sessions.{Leads, answers, board-of, by-board, calls-of, ok-or, paired-or, replied, shown-or, stepped-or, table-after, written-for};
+ghost use Rattle.session.specs.Sessions.{Leads, Told, answers, board-of, by-board, calls-of, ok-or, paired-or, replied, shown-or, stepped-or, table-after, written-for};
 ghost use Rattle.sheet.specs.Calls.{drawn-asked, drawn-table, partner-asked, settle-asked, settle-table};
 ghost use Rattle.sheet.specs.Lines.{checked};
 ghost use Rattle.sheet.specs.Rules.{new-table};
@@ -182,13 +182,15 @@ fn answer_all<C: Catalogue>(
     Ok(out)
 }
 
-/// Answers every line of a script on a new sheet.
-fn answer_anew<C: Catalogue + Drop>(
+/// Answers every line of a script on a new sheet. At every line the sheet is what the calls before it lead to, and shows
+/// what the promise says.
+pub fn answer_anew<C: Catalogue + Drop>(
     catalogue: C,
     heap: Global,
     script: &[u8],
 ) -> Result<String, AllocError>
-    ensures { λ r. ⌜ made r (λ s. string-bytes s ≡ answers (meaning catalogue) (lines (now (script .entry))) (new-table (meaning catalogue))) ⌝ }
+    ensures answers { λ r. ⌜ made r (λ s. string-bytes s ≡ answers (meaning catalogue) (lines (now (script .entry))) (new-table (meaning catalogue))) ⌝ }
+    ensures histories { λ _. ⌜ Told (meaning catalogue) ⌝ }
 {
     let mut sheet = Sheet::new(catalogue);
     answer_all(&mut sheet, heap, script)
