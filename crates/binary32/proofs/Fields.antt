@@ -1,5 +1,5 @@
--- Patterns are read and written back and forth
-use Prim.Native.Nat.{ℕ, zero, suc, _+_, _*_, _/_, _^_, _<_, _≤_}
+-- Patterns are worth what their fields say, and are read and written back and forth
+use Prim.Native.Nat.{ℕ, zero, suc, _+_, _*_, _/_, _%_, _^_, _<_, _≤_}
 use mathlib.Core.Bool.{Bool, true, false}
 use mathlib.Core.Path.{_≡_, refl, sym, ap, subst, _∙_}
 use mathlib.Core.Logic.{_≢_, ⊎-elim}
@@ -10,11 +10,25 @@ use Rattle.std.specs.declared.option.Option.{Option}
 use Rattle.std.specs.declared.option.Option.the-variants.{Some, None}
 use Rattle.std.proofs.shelf.Signed.{ints}
 use Rattle.std.proofs.shelf.Tests.{cases-lt, cond-both, cond-false, eqb-true, eqb-false, eq-eqb, ne-eqb}
-use Rattle.binary32.specs.Units.{beyond, with-sign, Reading}
+use Rattle.binary32.specs.Units.{in-units, units, value, beyond, with-sign, Reading}
 use Rattle.binary32.specs.Patterns.{sign-bit, exponent-field, fraction, rank-of, read, write}
+use Rattle.binary32.proofs.Whole.{value-neg}
 
 abbrev magnitude-of : ℕ → ℕ
 magnitude-of p = exponent-field p * 2 ^ 23 + fraction p
+
+-- ---- what the fields say
+value-signed : (b : Bool) (n : ℕ) → value (with-sign b n) ≡ with-sign b (units n)
+value-signed true n = value-neg (pos n)
+value-signed false n = refl
+
+pub fields : (p : ℕ) → value (rank-of p) ≡ with-sign (eqb (sign-bit p) 1) (in-units (exponent-field p) (fraction p))
+unfolding units
+fields p =
+    let s = eqb (sign-bit p) 1 in
+    let e : magnitude-of p / 2 ^ 23 ≡ exponent-field p = omega arith in
+    let f : magnitude-of p % 2 ^ 23 ≡ fraction p = omega arith in
+    value-signed s (magnitude-of p) ∙ ap (λ (x : ℕ). with-sign s (in-units x (magnitude-of p % 2 ^ 23))) e ∙ ap (λ (x : ℕ). with-sign s (in-units (exponent-field p) x)) f
 
 -- ---- what is read is a reading
 signed-reading : (b : Bool) (n : ℕ) → n < beyond → Reading (with-sign b n)

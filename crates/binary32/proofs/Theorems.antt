@@ -17,7 +17,7 @@ use Rattle.binary32.specs.Patterns.{read, write}
 use Rattle.binary32.specs.Computed.{rounded}
 use Rattle.binary32.specs.Binary32.{result-of, binary32, binary}
 use Rattle.binary32.specs.Theory.{Stands, Values, Written, Roundings}
-use Rattle.binary32.proofs.Fields.{read-reading, reread, rewritten}
+use Rattle.binary32.proofs.Fields.{fields, read-reading, reread, rewritten}
 use Rattle.binary32.proofs.Whole.{rounded-mono, value-mono}
 use Rattle.binary32.proofs.Standard.{rounds, rounds-one, value-lt, reading-abs}
 use Rattle.binary32.proofs.Between.{down-nearest, nearest-up, down-zero, zero-up}
@@ -48,7 +48,7 @@ binary-laws = ranked-laws binary32 read write binary32-laws record { reads = rea
 -- ---- theorems
 values : Values
 unfolding units
-values = record { rise = value-lt; zero = refl; greatest = refl; least = refl; past = refl }
+values = record { fields = fields; rise = value-lt; zero = refl; greatest = refl; least = refl; past = refl }
 
 written : Written
 written = record { reread = reread; rewritten = rewritten; minus-zero = refl; zero = refl; reading = read-reading }

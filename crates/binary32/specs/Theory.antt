@@ -3,6 +3,7 @@ use Prim.Native.Nat.{ℕ, _-_, _*_, _^_, _<_}
 use mathlib.Core.Bool.{true}
 use mathlib.Core.Path.{_≡_}
 use mathlib.Core.Logic.{_≢_}
+use lib.Dec.{eqb}
 use lib.IntN.{ℤ, pos, negℤ}
 use lib.Signed.{_≤ℤ_, _<ℤ_}
 use Rattle.std.specs.declared.option.Option.the-variants.{Some}
@@ -10,13 +11,14 @@ use Rattle.catalogue.specs.declared.types.Mode.{Mode}
 use Rattle.catalogue.specs.declared.types.Mode.the-variants.{Nearest, Up, Down, TowardZero}
 use Rattle.catalogue.specs.declared.types.Modes.{Modes}
 use Rattle.catalogue.specs.Modes.{has-mode, least-of, greatest-of}
-use Rattle.binary32.specs.Units.{units, value, largest, beyond, Reading}
-use Rattle.binary32.specs.Patterns.{read, write}
+use Rattle.binary32.specs.Units.{in-units, units, value, largest, beyond, with-sign, Reading}
+use Rattle.binary32.specs.Patterns.{sign-bit, exponent-field, fraction, rank-of, read, write}
 use Rattle.binary32.specs.Rounding.{Rounds}
 use Rattle.binary32.specs.Computed.{rounded}
 
--- values rise with the ranks, from end to end
+-- a pattern's rank is worth what its fields say, and values rise with the ranks, from end to end
 pub record Values : Type 0 where
+  pub fields : (p : ℕ) → value (rank-of p) ≡ with-sign (eqb (sign-bit p) 1) (in-units (exponent-field p) (fraction p))
   pub rise : (x y : ℤ) → x <ℤ y → value x <ℤ value y
   pub zero : value (pos 0) ≡ pos 0
   pub greatest : value (pos largest) ≡ pos ((2 ^ 24 - 1) * 2 ^ 253)

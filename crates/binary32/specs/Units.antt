@@ -5,6 +5,11 @@ use lib.Dec.{eqb}
 use lib.IntN.{ℤ, pos, negsuc, negℤ}
 use lib.Signed.{_≤ℤ_}
 
+-- by exponent field and fraction: a subnormal number, with exponent field 0, has its fraction as units;
+-- any other has a leading bit too, and doubles with each step of the exponent field
+abbrev pub in-units : ℕ → ℕ → ℕ
+in-units e f = cond (eqb e 0) f ((2 ^ 23 + f) * 2 ^ (e - 1))
+
 -- a magnitude is an exponent field and a fraction of 23 bits, read as one number
 abbrev pub exponent-of : ℕ → ℕ
 exponent-of m = m / 2 ^ 23
@@ -12,9 +17,8 @@ exponent-of m = m / 2 ^ 23
 abbrev pub fraction-of : ℕ → ℕ
 fraction-of m = m % 2 ^ 23
 
--- a subnormal number has its fraction as units; any other has a leading bit, and doubles with each step of the exponent field
 unfoldable pub units : ℕ → ℕ
-units m = cond (eqb (exponent-of m) 0) (fraction-of m) ((2 ^ 23 + fraction-of m) * 2 ^ (exponent-of m - 1))
+units m = in-units (exponent-of m) (fraction-of m)
 
 -- the largest reading's magnitude, and the first past the readings: exponent field 255, fraction 0
 abbrev pub largest : ℕ
