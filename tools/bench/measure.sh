@@ -1,0 +1,20 @@
+#!/bin/sh
+# Sums and settle steps per second, beside hardware additions: proves and builds what is needed, then measures in one run.
+set -eu
+root=$(cd "$(dirname "$0")/../.." && pwd)
+work=$root/target/bench
+mkdir -p "$work/crates"
+for crate in catalogue binary32 sheet; do
+    rm -rf "$work/crates/$crate"
+    cp -r "$root/crates/$crate" "$work/crates/$crate"
+done
+rm -rf "$work/crates/bench"
+cp -r "$root/tools/bench/bench" "$work/crates/bench"
+printf 'catalogue:\nbinary32: catalogue\nsheet: catalogue\nbench: sheet binary32 catalogue\n' > "$work/crates.txt"
+: > "$work/crates/bench/stdout"
+echo "measure: proving and building (log: target/bench/log)" >&2
+# rt holds what the program writes to a file; times differ from run to run, so only the program it leaves counts here
+(cd "$work" && rt check bench > log 2>&1) || true
+clang -O2 -frounding-math -o "$work/hardware" "$root/tools/bench/hardware.c" -lm
+"$work/hardware"
+"$work/target/bin/bench"
