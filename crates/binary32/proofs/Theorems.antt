@@ -11,6 +11,8 @@ use Rattle.catalogue.specs.declared.types.Mode.{Mode}
 use Rattle.catalogue.specs.Operations.{ArithLaws, In-order, falls-in-y}
 use Rattle.catalogue.specs.Meanings.{Laws}
 use Rattle.catalogue.proofs.Ranked.{ranked-laws}
+use Rattle.catalogue.proofs.Allowed.{AllowedBy, allowed-by, by-allowed}
+use Rattle.catalogue.proofs.Rising.{greatest-x, greatest-y, least-x, least-y}
 use Rattle.catalogue.proofs.Sets.{least-le, greatest-ge, least-reached, greatest-reached}
 use Rattle.binary32.specs.Units.{units}
 use Rattle.binary32.specs.Patterns.{read, write}
@@ -75,5 +77,15 @@ stands = record {
     none-below = least-le s f;
     some-greatest = greatest-reached s (p .0) (p .1) f;
     none-above = greatest-ge s f;
+  };
+  results = record {
+    least-x = least-x binary32 binary32-laws;
+    greatest-x = greatest-x binary32 binary32-laws;
+    least-y = least-y binary32 binary32-laws;
+    greatest-y = greatest-y binary32 binary32-laws;
+    allowed-only = λ k s x y z e. let b = allowed-by binary32 k s x y z e in
+        record { x-reads = b .x-reads; y-reads = b .y-reads; z-reads = b .z-reads; mode = b .mode; among = b .among; is = b .is };
+    allowed-all = λ k s x y z b. by-allowed binary32 k s x y z
+        (record { x-reads = b .x-reads; y-reads = b .y-reads; z-reads = b .z-reads; mode = b .mode; among = b .among; is = b .is });
   };
 }

@@ -1,4 +1,5 @@
--- Rounding: which rank each rounding-direction attribute gives for an exact number of units, in the words of IEEE 754-2019, 4.3.
+-- Rounding: which rank each rounding-direction attribute of IEEE 754-2019, 4.3, gives for an exact number of units, said with readings.
+-- The ranks of beyond, of either sign, stand where the standard has its infinities; the sign of a zero is not kept.
 use Prim.Native.Nat.{ℕ, _-_, _*_, _%_, _^_, _<_, _≤_}
 use mathlib.Core.Path.{_≡_}
 use mathlib.Core.Logic.{_⊎_, _≢_}

@@ -7,10 +7,13 @@ use lib.Dec.{eqb}
 use lib.IntN.{ℤ, pos, negℤ}
 use lib.Signed.{_≤ℤ_, _<ℤ_}
 use Rattle.std.specs.declared.option.Option.the-variants.{Some}
+use Rattle.catalogue.specs.declared.types.Kind.{Kind}
 use Rattle.catalogue.specs.declared.types.Mode.{Mode}
 use Rattle.catalogue.specs.declared.types.Mode.the-variants.{Nearest, Up, Down, TowardZero}
 use Rattle.catalogue.specs.declared.types.Modes.{Modes}
 use Rattle.catalogue.specs.Modes.{has-mode, least-of, greatest-of}
+use Rattle.catalogue.specs.Operations.{In-order, falls-in-y, greatest-result, least-result}
+use Rattle.binary32.specs.Binary32.{binary, binary32, result-of}
 use Rattle.binary32.specs.Units.{in-units, units, value, largest, beyond, with-sign, Reading}
 use Rattle.binary32.specs.Patterns.{sign-bit, exponent-field, fraction, rank-of, read, write}
 use Rattle.binary32.specs.Rounding.{Rounds}
@@ -55,8 +58,27 @@ pub record Ends (s : Modes) (f : Mode → ℤ) : Type 0 where
   pub some-greatest : (m : Mode) × (has-mode s m ≡ true) × (greatest-of s f ≡ f m)
   pub none-above : (m : Mode) → has-mode s m ≡ true → f m ≤ℤ greatest-of s f
 
+-- an allowed triple: three readings, z being the result for x and y under some mode of the set
+pub record Allows (k : Kind) (s : Modes) (x y z : ℤ) : Type 0 where
+  pub x-reads : Reading x
+  pub y-reads : Reading y
+  pub z-reads : Reading z
+  pub mode : Mode
+  pub among : has-mode s mode ≡ true
+  pub is : z ≡ result-of k mode x y
+
+-- the least and the greatest result of a mode set never fall as x grows, and move one way as y grows; and what is allowed
+pub record Results : Type 0 where
+  pub least-x : (k : Kind) (s : Modes) (x w y : ℤ) → x ≤ℤ w → least-result binary32 k s x y ≤ℤ least-result binary32 k s w y
+  pub greatest-x : (k : Kind) (s : Modes) (x w y : ℤ) → x ≤ℤ w → greatest-result binary32 k s x y ≤ℤ greatest-result binary32 k s w y
+  pub least-y : (k : Kind) (s : Modes) (x y w : ℤ) → y ≤ℤ w → In-order (falls-in-y k) (least-result binary32 k s x y) (least-result binary32 k s x w)
+  pub greatest-y : (k : Kind) (s : Modes) (x y w : ℤ) → y ≤ℤ w → In-order (falls-in-y k) (greatest-result binary32 k s x y) (greatest-result binary32 k s x w)
+  pub allowed-only : (k : Kind) (s : Modes) (x y z : ℤ) → binary .allowed k s x y z ≡ true → Allows k s x y z
+  pub allowed-all : (k : Kind) (s : Modes) (x y z : ℤ) → Allows k s x y z → binary .allowed k s x y z ≡ true
+
 pub record Stands : Type 0 where
   pub values : Values
   pub written : Written
   pub roundings : Roundings
   pub ends : (s : Modes) (f : Mode → ℤ) → Proper s → Ends s f
+  pub results : Results

@@ -1,15 +1,16 @@
 -- The promise, kept: a settled sheet shows the greatest consistent set within its limits, and sheets with the same limits and lines come to the same rest.
 use Prim.Native.Nat.{ℕ, _<_}
-use mathlib.Core.Bool.{true, false}
+use mathlib.Core.Bool.{Bool, true, false, not, _||_}
 use mathlib.Core.List.{List, [], _∷_}
 use mathlib.Core.Logic.{inl, inr, ⊎-elim, _≢_}
 use mathlib.Core.Path.{_≡_, refl, sym, _∙_, ap, subst}
 use native.Mathlib.Omega.{arith}
+use lib.Dec.{ltb}
 use lib.IntN.{ℤ}
 use Rattle.std.specs.declared.option.Option.{Option}
 use Rattle.std.specs.declared.option.Option.the-variants.{Some, None}
 use Rattle.std.proofs.shelf.Signed.{ints}
-use Rattle.std.proofs.shelf.Tests.{cases-eq, both-ways}
+use Rattle.std.proofs.shelf.Tests.{cases-eq, both-ways, le-ltb}
 use Rattle.catalogue.specs.declared.types.Triple.{Triple}
 use Rattle.catalogue.specs.Meanings.{Meaning, Laws, all-readings}
 use Rattle.catalogue.specs.Ranges.{Holds, HoldsO, Within, WithinO}
@@ -19,12 +20,21 @@ use Rattle.sheet.specs.declared.table.State.the-variants.{Settled, Open, Void}
 use Rattle.sheet.specs.Calls.{is-void}
 use Rattle.promise.specs.Histories.{Call, strike, enter, after, limits-of, line-at, Has-line}
 use Rattle.promise.specs.Promise.{Ranges, Assignment, given-to, Consistent, Inside, In-limits, Keeps, Shows, Same-lines, Same-limits, Alike, Rests, Promise, For-every-catalogue, settles, Consequences}
+use Rattle.sheet.specs.Lines.{checked, drawn-of}
+use Rattle.sheet.specs.Places.{has}
 use Rattle.sheet.specs.Rules.{range-at, at-rest}
 use Rattle.promise.proofs.Declining.{called-declined}
 use Rattle.promise.proofs.Recounting.{after-sound, entering-off, entering-own, striking-off, striking-own}
-use Rattle.promise.proofs.Remade.{passing}
+use Rattle.promise.proofs.Remade.{passing, remade}
 use Rattle.promise.proofs.Sounds.{Fixed, nowhere}
 use Rattle.promise.proofs.Unmoving.{unchanged, unmoved, within-both, within-then}
+
+has-line : (far here : Bool) → far ≡ false → here ≡ true → (far || not here) ≡ false
+has-line far here e f = ap (λ a. a || not here) e ∙ ap not f
+
+has-none : (far here : Bool) → here ≡ false → (far || not here) ≡ true
+has-none true here e = refl
+has-none false here e = ap not e
 
 not-void : (s : State) → (s ≡ Void → ⊥) → is-void s ≡ false
 not-void Settled h = refl
@@ -86,6 +96,9 @@ module _ (m : Meaning) (laws : Laws m) where
         consistent = shown-consistent h;
         in-limits = λ ne. s .live (not-void (after m h .state) ne) .within;
         greatest = λ ne σ c i. s .live (not-void (after m h .state) ne) .kept σ (set-fixed h σ c i);
+        there = λ n l e. let f = s .shape .there n l e in
+            (has-line (ltb 63 n) (has (after m h .standing) n) (le-ltb 63 n (omega (arith, f .place))) (f .stands), ap (λ w. checked (drawn-of w)) (f .row) ∙ remade l (f .passes));
+        free = λ n e. has-none (ltb 63 n) (has (after m h .standing) n) (s .shape .free n e);
         calm = s .calm;
         void-none = λ e σ c i. s .void (ap is-void e) σ (set-fixed h σ c i);
         none-void = λ rest never. by (after m h .state) refl rest never;

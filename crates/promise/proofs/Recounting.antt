@@ -200,5 +200,5 @@ module _ (m : Meaning) (laws : Laws m) where
   after-sound (enter n l ∷ h) = enter-sound m (limits-of m h) (line-at h) (after m h) (after-sound h) n l
   after-sound (strike n ∷ h) = strike-sound m (limits-of m h) (line-at h) (after m h) (after-sound h) n
   after-sound (settle b ∷ h) = cond-both (bad-budget b) (after m h) (settled m b (after m h) .table) (Sound m (limits-of m h) (line-at h)) (λ _. after-sound h) (λ _. settled-sound m laws (limits-of m h) (line-at h) b (after m h) (after-sound h))
-  after-sound (look ∷ h) = after-sound h
+  after-sound (look q ∷ h) = after-sound h
   after-sound (partner n x z ∷ h) = after-sound h

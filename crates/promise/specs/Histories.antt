@@ -13,17 +13,17 @@ use Rattle.catalogue.specs.declared.types.Range.{Range}
 use Rattle.catalogue.specs.Meanings.{Meaning, all-readings}
 use Rattle.sheet.specs.declared.lines.Line.{Line}
 use Rattle.sheet.specs.declared.table.Table.{Table}
-use Rattle.sheet.specs.Calls.{is-void, limit-asked, limit-table, line-table, partner-asked, settle-asked, settle-table, strike-asked, strike-table}
-use Rattle.sheet.specs.Places.{has}
+use Rattle.promise.specs.Shown.{show-asked}
+use Rattle.sheet.specs.Calls.{drawn-asked, limit-asked, limit-table, line-table, partner-asked, settle-asked, settle-table, strike-asked, strike-table}
 use Rattle.sheet.specs.Rules.{new-table}
 
--- a call, with any arguments; limit and partner are given patterns, and enter a line; a look changes nothing, whichever register it shows
+-- a call, with any arguments; limit and partner are given patterns, and enter a line, and look a register
 pub data Call : Type 0 where
   limit : ℕ → ℕ → ℕ → Call
   enter : ℕ → Line → Call
   strike : ℕ → Call
   settle : ℕ → Call
-  look : Call
+  look : ℕ → Call
   partner : ℕ → ℕ → ℕ → Call
 
 -- what the check promises of a line; enter takes no other
@@ -36,7 +36,7 @@ called m (limit r low high) t = limit-table m r (limit-asked m r low high) t
 called m (enter n l) t = cond (passes-check l) (line-table m n l t) t
 called m (strike n) t = strike-table m n t
 called m (settle b) t = settle-table m b t
-called m look t = t
+called m (look r) t = t
 called m (partner n x z) t = t
 
 -- whether a call is declined; an enter is declined too where its line does not pass the check
@@ -46,10 +46,10 @@ is-refusal (Err e) = true
 
 abbrev pub declines : Meaning → Call → Table → Bool
 declines m (limit r low high) t = is-refusal (limit-asked m r low high)
-declines m (enter n l) t = not (passes-check l) || (ltb 63 n || has (t .standing) n)
+declines m (enter n l) t = not (passes-check l) || is-refusal (drawn-asked n (Ok l) t)
 declines m (strike n) t = is-refusal (strike-asked n t)
 declines m (settle b) t = is-refusal (settle-asked m b t)
-declines m look t = is-void (t .state)
+declines m (look r) t = is-refusal (show-asked m r t)
 declines m (partner n x z) t = is-refusal (partner-asked m n x z t)
 
 abbrev pub after : Meaning → List Call → Table
@@ -71,7 +71,7 @@ limits-of m (limit q low high ∷ h) r = limits-got (eqb q r) (limit-asked m q l
 limits-of m (enter n l ∷ h) r = limits-of m h r
 limits-of m (strike n ∷ h) r = limits-of m h r
 limits-of m (settle b ∷ h) r = limits-of m h r
-limits-of m (look ∷ h) r = limits-of m h r
+limits-of m (look q ∷ h) r = limits-of m h r
 limits-of m (partner n x z ∷ h) r = limits-of m h r
 
 -- the line that stands at a place: from an enter until a strike, both carried out there;
@@ -82,7 +82,7 @@ line-at (enter k l ∷ h) n = cond ((eqb k n && ltb n 64) && (passes-check l && 
 line-at (strike k ∷ h) n = cond (eqb k n) None (line-at h n)
 line-at (limit r low high ∷ h) n = line-at h n
 line-at (settle b ∷ h) n = line-at h n
-line-at (look ∷ h) n = line-at h n
+line-at (look q ∷ h) n = line-at h n
 line-at (partner k x z ∷ h) n = line-at h n
 
 -- a line stands on the sheet, at some place

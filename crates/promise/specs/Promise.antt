@@ -8,6 +8,7 @@ use lib.Dec.{eqb}
 use lib.IntN.{ℤ}
 use Rattle.std.specs.declared.option.Option.{Option}
 use Rattle.std.specs.declared.option.Option.the-variants.{Some, None}
+use Rattle.std.specs.declared.result.Result.the-variants.{Ok}
 use Rattle.catalogue.specs.declared.types.Range.{Range}
 use Rattle.catalogue.specs.declared.types.Triple.{Triple}
 use Rattle.catalogue.specs.Meanings.{Meaning, Laws, all-readings}
@@ -16,8 +17,10 @@ use Rattle.sheet.specs.declared.lines.Line.{Line}
 use Rattle.sheet.specs.declared.table.State.the-variants.{Settled, Open, Void}
 use Rattle.sheet.specs.declared.table.Table.{Table}
 use Rattle.promise.specs.Histories.{Call, settle, strike, enter, after, declines, limits-of, line-at, Has-line}
+use Rattle.sheet.specs.Calls.{no-line}
+use Rattle.sheet.specs.Lines.{checked, drawn-of}
 use Rattle.sheet.specs.Places.{has}
-use Rattle.sheet.specs.Rules.{range-at, at-rest}
+use Rattle.sheet.specs.Rules.{range-at, row-at, at-rest}
 
 -- ---- sets of ranges, and assignments
 
@@ -79,6 +82,9 @@ pub record Shows (m : Meaning) (h : List Call) (t : Table) : Type 0 where
   -- settled or open, its ranges hold every assignment that keeps limits and lines; void, there is none
   pub holds : (t .state ≡ Void → ⊥) → (v : Assignment) → Keeps m h v → (r : ℕ) → r < 32 → Holds (range-at t r) (v r)
   pub void-holds : t .state ≡ Void → (v : Assignment) → Keeps m h v → ⊥
+  -- at each place it has the line that stands there by the list of calls, and no other: strike and partner go by it
+  pub there : (n : ℕ) (l : Line) → line-at h n ≡ Some l → (no-line n t ≡ false) × (checked (drawn-of (row-at t n)) ≡ Ok l)
+  pub free : (n : ℕ) → line-at h n ≡ None → no-line n t ≡ true
   -- at rest, no line is due
   pub calm : at-rest (t .state) ≡ true → (n : ℕ) → has (t .due) n ≡ false
 

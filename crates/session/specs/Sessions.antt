@@ -85,7 +85,7 @@ calls-of (Some (Limit r low high)) = limit r low high ∷ []
 calls-of (Some (Enter n k s x y z)) = entering n (checked (drawn k s x y z))
 calls-of (Some (Strike n)) = strike n ∷ []
 calls-of (Some (Settle b)) = settle b ∷ []
-calls-of (Some (Look r)) = look ∷ []
+calls-of (Some (Look r)) = look r ∷ []
 calls-of (Some (Partner n x z)) = partner n x z ∷ []
 
 -- a table is what a history leads to, and shows what the promise says of that history
