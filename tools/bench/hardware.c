@@ -1,4 +1,4 @@
-/* Hardware binary32 additions, with the rounding mode set, on the operands of bench/src/main.rt. */
+/* Hardware binary32 additions, with the rounding mode set, on the operands of bench.rt.txt. */
 #include <fenv.h>
 #include <stdint.h>
 #include <stdio.h>

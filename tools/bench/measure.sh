@@ -9,7 +9,8 @@ for crate in catalogue binary32 sheet; do
     cp -r "$root/crates/$crate" "$work/crates/$crate"
 done
 rm -rf "$work/crates/bench"
-cp -r "$root/tools/bench/bench" "$work/crates/bench"
+mkdir -p "$work/crates/bench/src"
+cp "$root/tools/bench/bench.rt.txt" "$work/crates/bench/src/main.rt"
 printf 'catalogue:\nbinary32: catalogue\nsheet: catalogue\nbench: sheet binary32 catalogue\n' > "$work/crates.txt"
 : > "$work/crates/bench/stdout"
 echo "measure: proving and building (log: target/bench/log)" >&2

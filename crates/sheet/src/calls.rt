@@ -169,10 +169,10 @@ impl<C: Catalogue> Sheet<C> {
             return Err(Refusal::NoLineThere);
         };
         let (x, z) = self.ranks(x, z)?;
-        match self.table.state {
-            State::Void => Err(Refusal::SheetVoid),
-            State::Settled | State::Open => Ok(self.partner_of(&line, x, z)),
+        if let State::Void = self.table.state {
+            return Err(Refusal::SheetVoid);
         }
+        Ok(self.partner_of(&line, x, z))
     }
 
     /// Some y in the shown range of a line's y that makes an allowed triple with the patterns x and z, or none.
