@@ -14,8 +14,10 @@ cp "$root/tools/bench/bench.rt.txt" "$work/crates/bench/src/main.rt"
 printf 'catalogue:\nbinary32: catalogue\nsheet: catalogue\nbench: sheet binary32 catalogue\n' > "$work/crates.txt"
 : > "$work/crates/bench/stdout"
 echo "measure: proving and building (log: target/bench/log)" >&2
-# rt holds what the program writes to a file; times differ from run to run, so only the program it leaves counts here
+rm -f "$work/target/bin/bench"
+# rt holds what a program writes to a file, which times never match; so what counts here is that the program was proved
 (cd "$work" && rt check bench > log 2>&1) || true
+grep -q '^rt: bench proved' "$work/log" || { echo "measure: not proved; see target/bench/log" >&2; exit 1; }
 clang -O2 -frounding-math -o "$work/hardware" "$root/tools/bench/hardware.c" -lm
 "$work/hardware"
 "$work/target/bin/bench"
