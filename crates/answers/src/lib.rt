@@ -1,5 +1,7 @@
 //! The answers to a script's commands, and their text.
 
+#![tactic(auto)]
+
 ghost use Rattle.std.specs.Prelude.{◌≡◌, ◌<◌, ◌++◌, is_ok, if◌then◌else◌, Some, string_bytes};
 ghost use Rattle.answers.specs.Texts.{line_of, outcome_text, reply_of, state_text, text_of};
 ghost use Rattle.sheet.specs.Calls.{outcome_number};

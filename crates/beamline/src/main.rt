@@ -1,5 +1,7 @@
 //! A shift at a beamline, answered as `ranges` answers it: the binary32 script in stdin, and what must be written in stdout.
 
+#![tactic(auto)]
+
 use session::{MOST_BYTES, answer_input};
 use std::io;
 use std::io::{Read, Write};

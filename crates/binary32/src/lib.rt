@@ -1,3 +1,5 @@
+#![tactic(auto)]
+
 pub mod binary32;
 pub mod magnitudes;
 pub mod patterns;

@@ -1,7 +1,7 @@
 -- The first number that passes a test: what the definition by halving finds, that nothing else is, and what a search has in hand where it ends.
 use Rattle.std.proofs.Common.{◌≡◌, ℕ, zero, suc, ◌+◌, ◌-◌, ◌^◌, ◌<◌, ◌≤◌, Bool, true, false, cond, leb, ◌⊎◌, Some, None, Option, sym, refl, ap, ◌∙◌, subst, ⊎_elim, arith, pow_pos}
 use native.Mathlib.Nat.{two-pow-succ}
-use Rattle.std.proofs.lemmas.Bool.{both_ways, cond_both, cases_lt, cases_order, le-leb, lt-leb, cond-true, cond_false}
+use Rattle.std.proofs.lemmas.Bool.{both_ways, cond_both, cases_lt, cases_order, le-leb, lt-leb, cond-true, cond-false}
 use Rattle.catalogue.specs.First.{halved, picked, first, First, Stays}
 
 pub not_passed : (b : Bool) → (b ≡ true → ⊥) → b ≡ false
@@ -35,7 +35,7 @@ module _ (p : ℕ → Bool) (n : ℕ) (st : Stays p n) where
   q_end k h = cond-true (leb n k) true (p k) (le-leb n k h)
 
   q_is : (k : ℕ) → k < n → q k ≡ p k
-  q_is k h = cond_false (leb n k) true (p k) (lt-leb n k h)
+  q_is k h = cond-false (leb n k) true (p k) (lt-leb n k h)
 
   q_keeps : Keeps q
   q_keeps j k le e = ⊎_elim

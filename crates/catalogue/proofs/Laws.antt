@@ -102,13 +102,13 @@ module _ (a : Arith) (laws : ArithLaws a) where
       c = cut_to_readings a t
 
       hx : Holds c.x x
-      hx = holds_cut a t.x x w.x-reads h.0
+      hx = holds_cut a t.x x w.x_reads h.0
 
       hy : Holds c.y y
-      hy = holds_cut a t.y y w.y-reads h.1
+      hy = holds_cut a t.y y w.y_reads h.1
 
       hz : Holds c.z z
-      hz = holds_cut a t.z z w.z-reads h.2
+      hz = holds_cut a t.z z w.z_reads h.2
 
       under : least_result a k s x y ≤ℤ z
       under = subst (λ v. least_result a k s x y ≤ℤ v) (sym w.is) (least_le s (λ m. a.result k m x y) w.mode w.among)

@@ -3,7 +3,7 @@ use Rattle.std.proofs.Common.{◌≡◌, ℕ, ◌/◌, ◌%◌, ◌<◌, Bool, t
 use lib.Signed.{≤ℤ_refl}
 use Rattle.std.proofs.lemmas.Int.{ints, clamps, by_lt_z}
 use Rattle.std.specs.Int.{int_max, int_min}
-use Rattle.std.proofs.lemmas.Bool.{cases_Bool, eqb-false, false≢true, cond-true, cond_false}
+use Rattle.std.proofs.lemmas.Bool.{cases_Bool, eqb-false, false≢true, cond-true, cond-false}
 use Rattle.catalogue.specs.declared.types.Mode.{Mode}
 use Rattle.catalogue.specs.declared.types.Mode.TheVariants.{Nearest, Up, Down, TowardZero}
 use Rattle.catalogue.specs.declared.types.Modes.{Modes}
@@ -150,11 +150,11 @@ module _ (s : Modes) (some : 0 < s.bits) (few : s.bits < 16) where
   pub has_first : has_mode s (first_mode s) ≡ true
   has_first =
       ⊎_elim (λ (h : has_mode s Nearest ≡ true). ap (has_mode s) (cond-true (has_mode s Nearest) Nearest _ h) ∙ h) (λ (h : has_mode s Nearest ≡ false).
-      ap (has_mode s) (cond_false (has_mode s Nearest) Nearest _ h) ∙
+      ap (has_mode s) (cond-false (has_mode s Nearest) Nearest _ h) ∙
       ⊎_elim (λ (i : has_mode s Up ≡ true). ap (has_mode s) (cond-true (has_mode s Up) Up _ i) ∙ i) (λ (i : has_mode s Up ≡ false).
-      ap (has_mode s) (cond_false (has_mode s Up) Up _ i) ∙
+      ap (has_mode s) (cond-false (has_mode s Up) Up _ i) ∙
       ⊎_elim (λ (j : has_mode s Down ≡ true). ap (has_mode s) (cond-true (has_mode s Down) Down TowardZero j) ∙ j) (λ (j : has_mode s Down ≡ false).
-      ap (has_mode s) (cond_false (has_mode s Down) Down TowardZero j) ∙ last h i j)
+      ap (has_mode s) (cond-false (has_mode s Down) Down TowardZero j) ∙ last h i j)
       (cases_Bool (has_mode s Down))) (cases_Bool (has_mode s Up))) (cases_Bool (has_mode s Nearest))
     where
       last : has_mode s Nearest ≡ false → has_mode s Up ≡ false → has_mode s Down ≡ false → has_mode s TowardZero ≡ true
@@ -174,13 +174,13 @@ module _ (s : Modes) (some : 0 < s.bits) (few : s.bits < 16) where
     lesser_reached v m r =
         ⊎_elim (λ (h : has_mode s m ≡ true). rw (cond-true (has_mode s m) (int_min v (f m)) v h)
         (by_lt_z (f m) v (λ (l : f m <ℤ v). (m, h, omega (arith, ints, clamps))) (λ (l : v ≤ℤ f m). let e : int_min v (f m) ≡ v = omega (arith, ints, clamps) in (r.0, r.1, e ∙ r.2))))
-        (λ (h : has_mode s m ≡ false). rw (cond_false (has_mode s m) (int_min v (f m)) v h) r) (cases_Bool (has_mode s m))
+        (λ (h : has_mode s m ≡ false). rw (cond-false (has_mode s m) (int_min v (f m)) v h) r) (cases_Bool (has_mode s m))
 
     greater_reached : (v : ℤ) (m : Mode) → Reached v → Reached (greater_if (has_mode s m) v (f m))
     greater_reached v m r =
         ⊎_elim (λ (h : has_mode s m ≡ true). rw (cond-true (has_mode s m) (int_max v (f m)) v h)
         (by_lt_z v (f m) (λ (l : v <ℤ f m). (m, h, omega (arith, ints, clamps))) (λ (l : f m ≤ℤ v). let e : int_max v (f m) ≡ v = omega (arith, ints, clamps) in (r.0, r.1, e ∙ r.2))))
-        (λ (h : has_mode s m ≡ false). rw (cond_false (has_mode s m) (int_max v (f m)) v h) r) (cases_Bool (has_mode s m))
+        (λ (h : has_mode s m ≡ false). rw (cond-false (has_mode s m) (int_max v (f m)) v h) r) (cases_Bool (has_mode s m))
 
     pub least_reached : (m : Mode) × (has_mode s m ≡ true) × (least_of s f ≡ f m)
     unfolding least_of

@@ -2,7 +2,7 @@
 use Rattle.std.proofs.Common.{◌≡◌, ℕ, ◌^◌, ◌<◌, ◌≤◌, Bool, true, false, ◌⊎◌, ℤ, pos, negsuc, ◌-ℤ◌, nat_abs, ◌≤ℤ◌, Some, None, Option, sym, refl, ap, ◌∙◌, subst, inl, inr, ⊎_elim, arith, w32, SFits}
 use lib.Signed.{le_z}
 use Rattle.std.proofs.lemmas.Int.{ints, clamps}
-use Rattle.std.proofs.lemmas.Bool.{both_ways, cases_lt, cases_Bool, cond_both, cond-true, cond_false}
+use Rattle.std.proofs.lemmas.Bool.{both_ways, cases_lt, cases_Bool, cond_both, cond-true, cond-false}
 use Rattle.catalogue.specs.declared.types.Kind.{Kind}
 use Rattle.catalogue.specs.declared.types.Kind.TheVariants.{Sum, Difference, Peak}
 use Rattle.catalogue.specs.declared.types.Modes.{Modes}
@@ -212,7 +212,7 @@ module _ (a : Arith) (laws : ArithLaws a) (k : Kind) (s : Modes) where
   full_or_empty : (r : Range) → Full r ⊎ Empty r
   full_or_empty r = ⊎_elim
       (λ (e : le_z r.low r.high ≡ true). inl (cond-true _ (Some r) None e, le_true _ _ e))
-      (λ (e : le_z r.low r.high ≡ false). inr (cond_false _ (Some r) None e, λ v h. not_le _ _ v e h.0 h.1))
+      (λ (e : le_z r.low r.high ≡ false). inr (cond-false _ (Some r) None e, λ v h. not_le _ _ v e h.0 h.1))
       (cases_Bool (le_z r.low r.high))
 
   pub narrowed_is : (t : Triple) → Narrows a k s t (narrowed a k s t)

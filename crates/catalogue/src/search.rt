@@ -29,7 +29,7 @@ fn origin(rises: bool, range: Range) -> i32
 impl Question {
     /// The least and the greatest result with a rank in the place that is asked about.
     fn span<A: Arithmetic>(self, a: &A, rank: i32) -> Span
-        ensures { result ≡ asked_span (arith a.now) self rank }
+        ensures { result ≡ asked_span (A.arith a.now) self rank }
     {
         match self.operand {
             Operand::X => a.span(self.kind, self.modes, rank, self.other),
@@ -39,7 +39,7 @@ impl Question {
 
     /// Whether a rank passes.
     fn passes<A: Arithmetic>(self, a: &A, rank: i32) -> bool
-        ensures { result ≡ Passes (arith a.now) self rank }
+        ensures { result ≡ Passes (A.arith a.now) self rank }
     {
         let span = self.span(a, rank);
         match self.asks {
@@ -65,7 +65,7 @@ impl Question {
     /// Whether the rank `k` on from another passes.
     fn passes_at<A: Arithmetic>(self, a: &A, from: i32, k: u32) -> bool
         requires { FitsSigned w32 (Moved (Rises self) from k) }
-        ensures { result ≡ Passes (arith a.now) self (Moved (Rises self) from k) }
+        ensures { result ≡ Passes (A.arith a.now) self (Moved (Rises self) from k) }
     {
         self.passes(a, moved(self.rises(), from, k))
     }
@@ -74,7 +74,7 @@ impl Question {
     /// The ends are tested first; then the steps double while they fail and halve where they pass.
     fn distance<A: Arithmetic>(self, a: &A, from: i32, n: u32) -> Option<u32>
         requires { FitsSigned w32 (Moved (Rises self) from n) }
-        ensures { result ≡ First (λ k. Passes (arith a.now) self (Moved (Rises self) from k)) n }
+        ensures { result ≡ First (λ k. Passes (A.arith a.now) self (Moved (Rises self) from k)) n }
     {
         if self.passes_at(a, from, 0) {
             return Some(0);
@@ -100,7 +100,7 @@ impl Question {
     /// The end of what passes in a range.
     pub(crate) fn edge<A: Arithmetic>(self, a: &A, range: Range) -> Option<i32>
         requires { Proper range }
-        ensures { result ≡ Edge (arith a.now) self range }
+        ensures { result ≡ Edge (A.arith a.now) self range }
     {
         let from = origin(self.rises(), range);
         match self.distance(a, from, range.extent()) {

@@ -1,5 +1,7 @@
 //! The commands of a script, and the reader that makes one of a line.
 
+#![tactic(auto)]
+
 ghost use Rattle.commands.specs.Commands.{by_letter, command_of, enter_of, kind_by_letter, kind_of, left, limit_of, look_of, none_left, partner_of, settle_of, strike_of, taken};
 ghost use Rattle.commands.specs.Lines.{Reads};
 ghost use Rattle.std.specs.Option.{option_map};

@@ -1,2 +1,4 @@
+#![tactic(auto)]
+
 pub mod counter;
 pub mod stopping;

@@ -1,5 +1,7 @@
 //! A sum that creeps one reading a step, answered as `ranges` answers it.
 
+#![tactic(auto)]
+
 use session::{MOST_BYTES, answer_input};
 use std::io;
 use std::io::{Read, Write};

@@ -1,5 +1,7 @@
 //! Worked examples of the definitions, small enough to be checked by hand.
 
+#![tactic(auto)]
+
 ghost use Rattle.examples.specs.Worked.{Worked};
 ghost use Rattle.std.specs.Prelude.{◌≡◌};
 ghost use Rattle.catalogue.specs.Operations.{readings};

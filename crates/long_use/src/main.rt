@@ -1,6 +1,8 @@
 //! A long-used sheet beside a new one: two scripts are replayed, and then a hundred thousand changes are made by a fixed
 //! rule, and time and again the sheet is compared with a new one that gets only the limits and lines that stand.
 
+#![tactic(auto)]
+
 use binary32::binary32::Binary32;
 use catalogue::interface::Catalogue;
 use catalogue::types::Kind;

@@ -1,5 +1,7 @@
 //! What a sheet shows, with the promise about long use on the call that shows it.
 
+#![tactic(auto)]
+
 ghost use Rattle.std.specs.Prelude.{◌≡◌, List};
 ghost use Rattle.promise.specs.Histories.{Call, after};
 ghost use Rattle.promise.specs.Promise.{Consequences, Promise, Shows};

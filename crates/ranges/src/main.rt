@@ -1,5 +1,7 @@
 //! The program `ranges`: a script on standard input, its answers on standard output.
 
+#![tactic(auto)]
+
 use session::{MOST_BYTES, answer_input};
 use std::io;
 use std::io::{Read, Write};

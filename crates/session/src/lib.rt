@@ -1,5 +1,7 @@
 //! A script and its answers: each command carried out on one sheet, in turn.
 
+#![tactic(auto)]
+
 ghost use Rattle.std.specs.Prelude.{◌≡◌, List, ◌++◌, IfOk, Some, string_bytes};
 ghost use Rattle.answers.specs.Texts.{line_of, refused, reply_of};
 ghost use Rattle.catalogue.specs.Refusals.{numbered};

@@ -1,3 +1,5 @@
+#![tactic(auto)]
+
 mod checks;
 pub mod lines;
 pub mod places;

@@ -1,5 +1,7 @@
 //! Runs published binary32 vectors through the catalogue, and prints by class and mode how many agree.
 
+#![tactic(auto)]
+
 ghost use Rattle.std.specs.Prelude.{◌≡◌, ◌<◌};
 ghost use Rattle.catalogue.specs.Operations.{equal as Equal};
 ghost use Rattle.vectors.specs.Vectors.{agreement, expected as Expected};

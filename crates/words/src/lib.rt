@@ -1,5 +1,7 @@
 //! Readers of byte slices: a text's words and lines as parts of it, and the words that stand for numbers.
 
+#![tactic(auto)]
+
 ghost use Rattle.std.specs.Prelude.{◌≡◌, ℕ, ◌^◌, ◌<◌, ◌≤◌, ◌&&◌, ltb, ◌⊎◌, [], ◌∷◌, ◌++◌, length, drop, if◌then◌else◌, Some, None, decimal, ◌==◌, ◌≢◌, nat_lt, slice_index};
 ghost use Rattle.std.specs.List.{AllByRecursion as All};
 ghost use Rattle.words.specs.Lines.{lines};

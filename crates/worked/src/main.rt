@@ -1,5 +1,7 @@
 //! Says how many worked examples are proved: whoever builds this program has had them proved.
 
+#![tactic(auto)]
+
 use examples::worked_examples;
 use std::io;
 
