@@ -6,7 +6,7 @@ pub loop-rest-preserved : goal.loop-rest-preserved
 loop-rest-preserved g c =
     let m = g.C.Catalogue.meaning c.loop-rest.sheet.catalogue in
     answers_more m _ c.loop-rest.sheet.table c.answer-reply.new.sheet.table _ _ c.line.result.0.now c.line.result.1.now c.loop-rest.rest.now _ _
-    (sym (ap g.C.Catalogue.meaning c.answer-reply.ensures.catalogue)) c.in-ok-write.ensures c.answer-reply.ensures.answer c.answer-reply.ensures.table
+    (sym (ap g.C.Catalogue.meaning c.answer-reply.ensures.catalogue)) c.in_ok-write.ensures c.answer-reply.ensures.answer c.answer-reply.ensures.table
     (c.line.ensures.lines (search rules)) c.loop-rest.invariant
 
 pub returns : goal.returns

@@ -12,7 +12,7 @@ returns g c =
     let n = g.C.Catalogue.meaning c.new-sheet.result.catalogue in
     let ls = lines c.args.script.now in
     let laws = g.met.C.Catalogue.laws c.args.catalogue in
-    let written = IfOk-weaker c.answer-all.result (λ s. string_bytes s ≡ answers n ls c.new-sheet.result.table) (λ s. string_bytes s ≡ answers m ls (new_table m))
+    let written = IfOk-weaker c.answer_all.result (λ s. string_bytes s ≡ answers n ls c.new-sheet.result.table) (λ s. string_bytes s ≡ answers m ls (new_table m))
     (λ s h. h ∙ answers_new m n c.new-sheet.result.table ls (ap g.C.Catalogue.meaning c.new-sheet.ensures.catalogue) c.new-sheet.ensures.table)
-    c.answer-all.ensures in
+    c.answer_all.ensures in
     record { answers = written; histories = told m laws }

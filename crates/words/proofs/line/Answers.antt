@@ -6,6 +6,6 @@ use Rattle.words.proofs.line.Goals as goal
 pub returns : goal.returns
 returns c =
     let f = c.cut.ensures.front in
-    let b = c.behind-first.ensures ∙ ap (drop 1) c.cut.ensures.back in
+    let b = c.behind_first.ensures ∙ ap (drop 1) c.cut.ensures.back in
     let p = line_parts c.args.text.now _ _ f b in
     record { line = f; rest = b; clear = p.clear; whole = p.whole; lines = p.lines; shorter = p.shorter }

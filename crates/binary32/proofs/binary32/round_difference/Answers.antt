@@ -19,7 +19,7 @@ returns c =
     let r : SFits w32 c.round.result = search rules in
     let a = simp to_z-of_z at c.nearest.ensures.value in
     let b = simp to_z-of_z at c.nearest-2.ensures.value in
-    let l = simp to_z-of_z at c.exact-difference.ensures in
+    let l = simp to_z-of_z at c.exact_difference.ensures in
     let m = c.args.mode in
     let e =
     to_z-of_z w32 c.round.result r ∙ c.round.ensures ∙ rank_rounds _ _ l m

@@ -27,4 +27,4 @@ returns c =
     let near : scale_of c.args.big - scale_of c.args.small ≤ 39 = omega arith in
     let e = near_sum c.args.big c.args.small c.requires.order near c.args.like in
     let a : c.aligned.result * 2 ^ c.scale-base.result ≡ joined c.args.like (units c.args.big) (units c.args.small) = cc in
-    subst (λ (n : ℕ). LiesAt n c.locate-scaled.result) a c.locate-scaled.ensures
+    subst (λ (n : ℕ). LiesAt n c.locate_scaled.result) a c.locate_scaled.ensures

@@ -16,14 +16,14 @@ shifted-requires c =
     let t = up_top _ c.args.scale _ _ f p c.if-width-le24.true c.requires c.room-up.ensures in
     record { place = omega arith; room = omega (arith, t) }
 
-pub overflow-cast-shifted : goal.overflow-cast-shifted
-overflow-cast-shifted c =
+pub overflow_cast-shifted : goal.overflow_cast-shifted
+overflow_cast-shifted c =
     let f = wide c.args.sum c.ranges.sum.fits in
     let p : 0 < c.args.sum = omega arith in
     omega (arith, up_top _ c.args.scale _ _ f p c.if-width-le24.true c.requires c.room-up.ensures)
 
-pub magnitude-of-requires : goal.magnitude-of-requires
-magnitude-of-requires c =
+pub magnitude_of-requires : goal.magnitude_of-requires
+magnitude_of-requires c =
     let f = wide c.args.sum c.ranges.sum.fits in
     let p : 0 < c.args.sum = omega arith in
     let t = up_top _ c.args.scale _ _ f p c.if-width-le24.true c.requires c.room-up.ensures in
@@ -35,14 +35,14 @@ returns-then-width-le24 c =
     let p : 0 < c.args.sum = omega arith in
     up_exact _ _ _ _ f p c.if-width-le24.true c.requires c.room-up.ensures ∙ ap units (omega arith)
 
-pub overflow-cast-kept-else-width-le24 : goal.overflow-cast-kept-else-width-le24
-overflow-cast-kept-else-width-le24 c =
+pub overflow_cast-kept-else-width-le24 : goal.overflow_cast-kept-else-width-le24
+overflow_cast-kept-else-width-le24 c =
     let f = wide c.args.sum c.ranges.sum.fits in
     let p : 0 < c.args.sum = omega arith in
     omega (arith, down_kept _ _ _ f p c.if-width-le24.false c.requires)
 
-pub magnitude-of-requires-else-width-le24 : goal.magnitude-of-requires-else-width-le24
-magnitude-of-requires-else-width-le24 c =
+pub magnitude_of-requires-else-width-le24 : goal.magnitude_of-requires-else-width-le24
+magnitude_of-requires-else-width-le24 c =
     let f = wide c.args.sum c.ranges.sum.fits in
     let p : 0 < c.args.sum = omega arith in
     record { scale = omega (arith, f.most); bits = down_kept _ _ _ f p c.if-width-le24.false c.requires }
@@ -51,6 +51,6 @@ pub returns-else-width-le24 : goal.returns-else-width-le24
 returns-else-width-le24 c =
     let f = wide c.args.sum c.ranges.sum.fits in
     let p : 0 < c.args.sum = omega arith in
-    let d = simp (c.shifted-else-width-le24.ensures, c.shifted-else-width-le24-2.ensures) at c.rest-of.ensures in
-    subst (λ (t : ℕ). Lies (c.args.sum * 2 ^ c.args.scale) t c.rest-of.result) (sym c.magnitude-of-else-width-le24.ensures)
-    (down_lies _ _ _ f p c.if-width-le24.false c.requires c.rest-of.result d)
+    let d = simp (c.shifted-else-width-le24.ensures, c.shifted-else-width-le24-2.ensures) at c.rest_of.ensures in
+    subst (λ (t : ℕ). Lies (c.args.sum * 2 ^ c.args.scale) t c.rest_of.result) (sym c.magnitude_of-else-width-le24.ensures)
+    (down_lies _ _ _ f p c.if-width-le24.false c.requires c.rest_of.result d)

@@ -12,4 +12,4 @@ returns c =
     let y : SFits w32 c.args.y = c.ranges.y in
     let n : SFits w32 c.negated.result = search rules in
     let e = simp to_z-of_z at c.negated.ensures.value in
-    subst (λ (v : ℤ). Locates (value c.args.x +ℤ v) c.exact-sum.result) (ap value e ∙ value_neg c.args.y) (simp to_z-of_z at c.exact-sum.ensures)
+    subst (λ (v : ℤ). Locates (value c.args.x +ℤ v) c.exact_sum.result) (ap value e ∙ value_neg c.args.y) (simp to_z-of_z at c.exact_sum.ensures)

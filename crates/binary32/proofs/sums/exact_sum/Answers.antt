@@ -11,8 +11,8 @@ locate-requires c =
     let y : SFits w32 c.args.y = c.ranges.y in
     let l : SFits w32 c.ordered-pair.result.larger = search rules in
     let s : SFits w32 c.ordered-pair.result.smaller = search rules in
-    let a = simp to_z-of_z at c.unsigned-abs.ensures.value in
-    let b = simp to_z-of_z at c.unsigned-abs-2.ensures.value in
+    let a = simp to_z-of_z at c.unsigned_abs.ensures.value in
+    let b = simp to_z-of_z at c.unsigned_abs-2.ensures.value in
     let p = simp to_z-of_z at c.ordered-pair.ensures.pair in
     let o = c.ordered-pair.ensures.order in
     record { reading = omega (arith, pair_reading _ _ _ _ p c.requires.x c.requires.y); order = omega arith }
@@ -26,4 +26,4 @@ returns c =
     let p = simp to_z-of_z at c.ordered-pair.ensures.pair in
     subst (λ (e : ℤ). Locates e (record { negative = lt_z (to_z w32 (of_z w32 c.ordered-pair.result.larger)) (pos 0); location = c.locate.result })) (pair_sum _ _ _ _ p)
     (sum_located _ _ _ _ _ _ _ (to_z-of_z w32 c.ordered-pair.result.larger l) (to_z-of_z w32 c.ordered-pair.result.smaller s)
-    c.unsigned-abs.ensures.value c.unsigned-abs-2.ensures.value c.ordered-pair.ensures.order c.locate.ensures)
+    c.unsigned_abs.ensures.value c.unsigned_abs-2.ensures.value c.ordered-pair.ensures.order c.locate.ensures)

@@ -11,8 +11,8 @@ returns-in-Sum c =
     let r : SFits w32 c.addend.result = search rules in
     let e = simp to_z-of_z at c.addend.ensures.value in
     record {
-      least = (simp to_z-of_z at c.sum-span.ensures.least) ∙ sum_least c.args.kind c.args.modes c.args.x c.args.y c.addend.result e c.in-Sum.is;
-      greatest = (simp to_z-of_z at c.sum-span.ensures.greatest) ∙ sum_greatest c.args.kind c.args.modes c.args.x c.args.y c.addend.result e c.in-Sum.is;
+      least = (simp to_z-of_z at c.sum_span.ensures.least) ∙ sum_least c.args.kind c.args.modes c.args.x c.args.y c.addend.result e c.in-Sum.is;
+      greatest = (simp to_z-of_z at c.sum_span.ensures.greatest) ∙ sum_greatest c.args.kind c.args.modes c.args.x c.args.y c.addend.result e c.in-Sum.is;
     }
 
 pub returns-in-Peak : goal.returns-in-Peak

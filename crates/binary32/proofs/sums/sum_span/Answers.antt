@@ -9,5 +9,5 @@ pub returns : goal.returns
 returns c =
     let x : SFits w32 c.args.x = c.ranges.x in
     let y : SFits w32 c.args.y = c.ranges.y in
-    let r = rank_rounds _ _ (simp to_z-of_z at c.exact-sum.ensures) in
+    let r = rank_rounds _ _ (simp to_z-of_z at c.exact_sum.ensures) in
     record { least = c.span.ensures.least ∙ least_is c.args.modes c.args.x c.args.y _ r; greatest = c.span.ensures.greatest ∙ greatest_is c.args.modes c.args.x c.args.y _ r }

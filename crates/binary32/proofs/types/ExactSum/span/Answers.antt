@@ -12,6 +12,6 @@ returns-then-has-2 c =
     let t = s.location.rank in
     let r = s.location.rest in
     record {
-      least = c.directed-span.ensures.least ∙ least_at c.args.modes (rank_by s) Down (sym c.if-has.ensures) (down_least s.negative t r);
-      greatest = c.directed-span.ensures.greatest ∙ greatest_at c.args.modes (rank_by s) Up (sym c.if-has-2.ensures) (up_greatest s.negative t r);
+      least = c.directed_span.ensures.least ∙ least_at c.args.modes (rank_by s) Down (sym c.if-has.ensures) (down_least s.negative t r);
+      greatest = c.directed_span.ensures.greatest ∙ greatest_at c.args.modes (rank_by s) Up (sym c.if-has-2.ensures) (up_greatest s.negative t r);
     }

@@ -5,21 +5,21 @@ use Rattle.catalogue.proofs.Rising.{stays, fits_on_the_way}
 use Rattle.catalogue.proofs.Firsts.{found_next, found_zero, found_none}
 use Rattle.catalogue.proofs.types.Question.distance.Goals as goal
 
-pub passes-at-requires : goal.passes-at-requires
-passes-at-requires g c =
+pub passes_at-requires : goal.passes_at-requires
+passes_at-requires g c =
     rw (to_z-of_z w32 c.args.from c.ranges.from)
     (fits_on_the_way (rises c.args.self) c.args.from c.args.n 0 (omega arith) c.ranges.from c.requires)
 
-pub returns-then-passes-at : goal.returns-then-passes-at
-returns-then-passes-at g c = found_zero _ _ c.ranges.n.fits (stays _ (g.met.A.Arithmetic.laws _) c.args.self c.args.from c.args.n)
-    (rw (to_z-of_z w32 c.args.from c.ranges.from) at (sym c.if-passes-at.ensures))
+pub returns-then-passes_at : goal.returns-then-passes_at
+returns-then-passes_at g c = found_zero _ _ c.ranges.n.fits (stays _ (g.met.A.Arithmetic.laws _) c.args.self c.args.from c.args.n)
+    (rw (to_z-of_z w32 c.args.from c.ranges.from) at (sym c.if-passes_at.ensures))
 
-pub returns-then-not-passes-at : goal.returns-then-not-passes-at
-returns-then-not-passes-at g c = found_none _ _ c.ranges.n.fits (stays _ (g.met.A.Arithmetic.laws _) c.args.self c.args.from c.args.n)
-    (rw (to_z-of_z w32 c.args.from c.ranges.from) at (sym c.if-not-passes-at.ensures))
+pub returns-then-not-passes_at : goal.returns-then-not-passes_at
+returns-then-not-passes_at g c = found_none _ _ c.ranges.n.fits (stays _ (g.met.A.Arithmetic.laws _) c.args.self c.args.from c.args.n)
+    (rw (to_z-of_z w32 c.args.from c.ranges.from) at (sym c.if-not-passes_at.ensures))
 
-pub passes-at-requires-in-loop-high : goal.passes-at-requires-in-loop-high
-passes-at-requires-in-loop-high g c =
+pub passes_at-requires-in-loop-high : goal.passes_at-requires-in-loop-high
+passes_at-requires-in-loop-high g c =
     rw (to_z-of_z w32 c.args.from c.ranges.from)
     (fits_on_the_way (rises c.args.self) c.args.from c.args.n _ (search rules) c.ranges.from c.requires)
 

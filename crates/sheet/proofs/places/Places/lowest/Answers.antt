@@ -5,10 +5,10 @@ use Rattle.sheet.specs.Places.{is_none}
 use Rattle.sheet.proofs.PlaceSets.{trails, has_true, has_false}
 use Rattle.sheet.proofs.places.Places.lowest.Goals as goal
 
-pub returns-else-is-none : goal.returns-else-is-none
-returns-else-is-none c =
+pub returns-else-is_none : goal.returns-else-is_none
+returns-else-is_none c =
     let s = c.args.self in
-    let some : is_none s ≡ false = sym c.if-is-none.ensures in
+    let some : is_none s ≡ false = sym c.if-is_none.ensures in
     let ne = eqb-false s.bits 0 some in
     let p : 0 < s.bits = search rules in
     let t = trails 64 s.bits p (search rules) in

@@ -3,8 +3,8 @@ use Rattle.std.proofs.Common.{rules}
 use Rattle.sheet.proofs.Settles.{settled_steps}
 use Rattle.sheet.proofs.sheet.Sheet.settle.Goals as goal
 
-pub returns-then-is-bad-budget : goal.returns-then-is-bad-budget
-returns-then-is-bad-budget g c = record {
+pub returns-then-is_bad_budget : goal.returns-then-is_bad_budget
+returns-then-is_bad_budget g c = record {
   answer = search rules;
   table = search rules;
   catalogue = search rules;

@@ -17,15 +17,15 @@ loop-made-preserved g c =
     let b = c.args.budget in
     let k = c.loop-made.made in
     c.loop-made.invariant
-    ∙ ap (after_steps k) (settled_on m b k c.loop-made.self c.loop-made-test.true (sym c.if-is-at-rest.ensures))
+    ∙ ap (after_steps k) (settled_on m b k c.loop-made.self c.loop-made-test.true (sym c.if-is_at_rest.ensures))
     ∙ after_more k (settled m (b - (k + 1)) _)
     ∙ ap (λ t. after_steps (k + 1) (settled m (b - (k + 1)) t)) (sym c.react.ensures)
 
-pub returns-then-is-at-rest : goal.returns-then-is-at-rest
-returns-then-is-at-rest g c =
+pub returns-then-is_at_rest : goal.returns-then-is_at_rest
+returns-then-is_at_rest g c =
     let m = g.C.Catalogue.meaning c.args.catalogue.now in
     let k = c.loop-made.made in
-    c.loop-made.invariant ∙ ap (after_steps k) (settled_rest m _ c.loop-made.self (sym c.if-is-at-rest.ensures)) ∙ ap (settling c.loop-made.self) (omega arith)
+    c.loop-made.invariant ∙ ap (after_steps k) (settled_rest m _ c.loop-made.self (sym c.if-is_at_rest.ensures)) ∙ ap (settling c.loop-made.self) (omega arith)
 
 pub returns : goal.returns
 returns g c =
