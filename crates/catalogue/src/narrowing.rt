@@ -1,6 +1,6 @@
 ghost use Rattle.std.specs.Prelude.{◌≡◌, Some};
 ghost use Rattle.catalogue.specs.Ranges.{Proper, all_three, meet, unless_empty};
-ghost use Rattle.catalogue.specs.Operations.{Arith, falls_in_y};
+ghost use Rattle.catalogue.specs.Operations.{falls_in_y};
 ghost use Rattle.catalogue.specs.Narrowing.{Narrowing, y_for_greatest, y_for_least};
 ghost use Rattle.catalogue.specs.Search.{between as Between, cut as Cut, kept as Kept, narrowed, narrowed_readings, keeps_x, keeps_y, keeps_z, results as Results};
 ghost use Rattle.catalogue.specs.Whole.{holds_all, reaches_into, span_at_high, span_at_low};
@@ -59,7 +59,7 @@ fn kept<A: Arithmetic>(
     z: Range,
 ) -> Option<Range>
     requires { Proper range }
-    ensures { result ≡ Kept (Arith a.now) kind modes operand range for_least for_greatest z }
+    ensures { result ≡ Kept (A.arith a.now) kind modes operand range for_least for_greatest z }
 {
     let reaches = Question {
         kind,
@@ -86,7 +86,7 @@ fn kept<A: Arithmetic>(
 
 /// The given ranges cut to the readings, unless one is empty.
 fn cut<A: Arithmetic>(a: &A, given: Triple) -> Option<Triple>
-    ensures { result ≡ Cut (Arith a.now) given }
+    ensures { result ≡ Cut (A.arith a.now) given }
 {
     let readings = a.readings();
     all_three(
@@ -98,21 +98,21 @@ fn cut<A: Arithmetic>(a: &A, given: Triple) -> Option<Triple>
 
 /// The least result that two ranges can have.
 fn least_result<A: Arithmetic>(a: &A, kind: Kind, modes: Modes, x: Range, y: Range) -> i32
-    ensures { result ≡ (Results (Arith a.now) kind modes x y).low }
+    ensures { result ≡ (Results (A.arith a.now) kind modes x y).low }
 {
     a.span(kind, modes, x.low, kind.y_for_least(y)).least
 }
 
 /// The greatest result that two ranges can have.
 fn greatest_result<A: Arithmetic>(a: &A, kind: Kind, modes: Modes, x: Range, y: Range) -> i32
-    ensures { result ≡ (Results (Arith a.now) kind modes x y).high }
+    ensures { result ≡ (Results (A.arith a.now) kind modes x y).high }
 {
     a.span(kind, modes, x.high, kind.y_for_greatest(y)).greatest
 }
 
 /// The results that two ranges can have.
 fn results<A: Arithmetic>(a: &A, kind: Kind, modes: Modes, x: Range, y: Range) -> Range
-    ensures { result ≡ Results (Arith a.now) kind modes x y }
+    ensures { result ≡ Results (A.arith a.now) kind modes x y }
 {
     Range {
         low: least_result(a, kind, modes, x, y),
@@ -123,7 +123,7 @@ fn results<A: Arithmetic>(a: &A, kind: Kind, modes: Modes, x: Range, y: Range) -
 /// What x keeps of its range.
 fn keep_x<A: Arithmetic>(a: &A, kind: Kind, modes: Modes, given: Triple) -> Option<Range>
     requires { Proper given.x }
-    ensures { result ≡ keeps_x (Arith a.now) kind modes given }
+    ensures { result ≡ keeps_x (A.arith a.now) kind modes given }
 {
     let Triple { x, y, z } = given;
     kept(
@@ -141,7 +141,7 @@ fn keep_x<A: Arithmetic>(a: &A, kind: Kind, modes: Modes, given: Triple) -> Opti
 /// What y keeps of its range.
 fn keep_y<A: Arithmetic>(a: &A, kind: Kind, modes: Modes, given: Triple) -> Option<Range>
     requires { Proper given.y }
-    ensures { result ≡ keeps_y (Arith a.now) kind modes given }
+    ensures { result ≡ keeps_y (A.arith a.now) kind modes given }
 {
     let Triple { x, y, z } = given;
     kept(a, kind, modes, Operand::Y, y, x.low, x.high, z)
@@ -149,7 +149,7 @@ fn keep_y<A: Arithmetic>(a: &A, kind: Kind, modes: Modes, given: Triple) -> Opti
 
 /// What z keeps of its range.
 fn keep_z<A: Arithmetic>(a: &A, kind: Kind, modes: Modes, given: Triple) -> Option<Range>
-    ensures { result ≡ keeps_z (Arith a.now) kind modes given }
+    ensures { result ≡ keeps_z (A.arith a.now) kind modes given }
 {
     let Triple { x, y, z } = given;
     z.meet(results(a, kind, modes, x, y)).unless_empty()
@@ -171,14 +171,14 @@ fn reaches_into(span: Span, z: Range) -> bool
 
 /// The results for x's low end and the end of y's range that suits it best.
 fn span_at_low<A: Arithmetic>(a: &A, kind: Kind, modes: Modes, x: Range, y: Range) -> Span
-    ensures { result ≡ span_at_low (Arith a.now) kind modes x y }
+    ensures { result ≡ span_at_low (A.arith a.now) kind modes x y }
 {
     a.span(kind, modes, x.low, kind.y_for_greatest(y))
 }
 
 /// The results for x's high end and the end of y's range that suits it best.
 fn span_at_high<A: Arithmetic>(a: &A, kind: Kind, modes: Modes, x: Range, y: Range) -> Span
-    ensures { result ≡ span_at_high (Arith a.now) kind modes x y }
+    ensures { result ≡ span_at_high (A.arith a.now) kind modes x y }
 {
     a.span(kind, modes, x.high, kind.y_for_least(y))
 }
@@ -187,7 +187,7 @@ fn span_at_high<A: Arithmetic>(a: &A, kind: Kind, modes: Modes, x: Range, y: Ran
 fn search_readings<A: Arithmetic>(a: &A, kind: Kind, modes: Modes, given: Triple) -> Option<Triple>
     requires x { Proper given.x }
     requires y { Proper given.y }
-    ensures { result ≡ narrowed_readings (Arith a.now) kind modes given }
+    ensures { result ≡ narrowed_readings (A.arith a.now) kind modes given }
 {
     let x = keep_x(a, kind, modes, given);
     let y = keep_y(a, kind, modes, given);
@@ -207,7 +207,7 @@ fn whole(x: Range, y: Range, z: Range, results: Range) -> Option<Triple>
 fn narrow_readings<A: Arithmetic>(a: &A, kind: Kind, modes: Modes, given: Triple) -> Option<Triple>
     requires x { Proper given.x }
     requires y { Proper given.y }
-    ensures { result ≡ narrowed_readings (Arith a.now) kind modes given }
+    ensures { result ≡ narrowed_readings (A.arith a.now) kind modes given }
 {
     let Triple { x, y, z } = given;
     let results = results(a, kind, modes, x, y);
@@ -223,8 +223,8 @@ fn narrow_readings<A: Arithmetic>(a: &A, kind: Kind, modes: Modes, given: Triple
 
 /// The given ranges narrowed by one operation, or none: exactly what the rules keep.
 pub fn narrow<A: Arithmetic>(a: &A, kind: Kind, modes: Modes, given: Triple) -> Option<Triple>
-    ensures value { result ≡ narrowed (Arith a.now) kind modes given }
-    ensures words { Narrowing (Arith a.now) kind modes given result }
+    ensures value { result ≡ narrowed (A.arith a.now) kind modes given }
+    ensures words { Narrowing (A.arith a.now) kind modes given result }
 {
     match cut(a, given) {
         Some(within) => narrow_readings(a, kind, modes, within),

@@ -1,6 +1,6 @@
 ghost use Rattle.std.specs.Prelude.{◌≡◌, ◌&&◌, IfSome};
 ghost use Rattle.catalogue.specs.Ranges.{Proper, holds};
-ghost use Rattle.catalogue.specs.Operations.{Arith, allowed, equal as Equal};
+ghost use Rattle.catalogue.specs.Operations.{allowed, equal as Equal};
 ghost use Rattle.catalogue.specs.Partners.{SomeOf, or_else, partner_by, partner_in, partnered, toward_z};
 
 use crate::arithmetic::Arithmetic;
@@ -53,7 +53,7 @@ fn partner_by<A: Arithmetic>(
     mode: Mode,
 ) -> Option<i32>
     requires { Proper y }
-    ensures { result ≡ partner_by (Arith a.now) kind modes x z y mode }
+    ensures { result ≡ partner_by (A.arith a.now) kind modes x z y mode }
 {
     if !modes.has(mode) {
         return None;
@@ -85,7 +85,7 @@ fn partner_in<A: Arithmetic>(
     y: Option<Range>,
 ) -> Option<i32>
     requires { IfSome y Proper }
-    ensures { result ≡ partner_in (Arith a.now) kind modes x z y }
+    ensures { result ≡ partner_in (A.arith a.now) kind modes x z y }
 {
     let y = y?;
     let nearest = partner_by(a, kind, modes, x, z, y, Mode::Nearest);
@@ -97,7 +97,7 @@ fn partner_in<A: Arithmetic>(
 
 /// A partner in any range, of readings x and z.
 fn find<A: Arithmetic>(a: &A, kind: Kind, modes: Modes, x: i32, z: i32, y: Range) -> Option<i32>
-    ensures { result ≡ partnered (Arith a.now) kind modes x z y }
+    ensures { result ≡ partnered (A.arith a.now) kind modes x z y }
 {
     let readings = a.readings();
     if both_in(readings, x, z) {
@@ -116,8 +116,8 @@ pub fn partner<A: Arithmetic>(
     z: i32,
     y: Range,
 ) -> Option<i32>
-    ensures value { result ≡ partnered (Arith a.now) kind modes x z y }
-    ensures words { SomeOf y (λ v. allowed (Arith a.now) kind modes x v z) result }
+    ensures value { result ≡ partnered (A.arith a.now) kind modes x z y }
+    ensures words { SomeOf y (λ v. allowed (A.arith a.now) kind modes x v z) result }
 {
     find(a, kind, modes, x, z, y)
 }
