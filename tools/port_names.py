@@ -18,6 +18,8 @@ DEFINITION = re.compile(
     r"^\s*(?:(?:abbrev|unfoldable|irreducible|opaque|postulate)\s+)*(?:pub\s+)?(?:(?:abbrev|unfoldable|irreducible|opaque|record|data)\s+)*"
     rf"(?P<name>{WORD})(?=\s+:|\s+\()"
 )
+# a name of the library that a line of ours begins with
+LIBRARY = {"cond-false"}
 # names whose plain respelling would not do: it is taken, or it is no word
 SPECIAL = {"≤-then": "le_then", "getD-same": "get_or_same", "SameLines": "LinesStay"}
 
@@ -42,7 +44,7 @@ def defined(path):
     with open(path, encoding="utf-8") as f:
         for line in f:
             found = DEFINITION.match(line)
-            if found:
+            if found and found["name"] not in LIBRARY:
                 yield found["name"]
 
 

@@ -2,7 +2,7 @@
 use Rattle.std.specs.Prelude.{◌≡◌, ℕ, zero, suc, ◌+◌, ◌*◌, ◌/◌, ◌%◌, ◌^◌, ◌<◌, ◌≤◌, Bool, true, false, ◌≢◌, ℤ, pos, negsuc, neg_ℤ, Some, None, Option, ◌==◌, nat_eq, refl}
 use Rattle.std.proofs.Common.{sym, ap, subst, ◌∙◌, ⊎_elim, arith}
 use Rattle.std.proofs.lemmas.Int.{ints}
-use Rattle.std.proofs.lemmas.Bool.{cases_lt, cond_both, cond_false, eqb-true, eqb-false, eq-eqb, ne_eqb}
+use Rattle.std.proofs.lemmas.Bool.{cases_lt, cond_both, cond-false, eqb-true, eqb-false, eq-eqb, ne_eqb}
 use Rattle.binary32.specs.Units.{in_units, units, value, beyond, with_sign, Reading}
 use Rattle.binary32.specs.Patterns.{sign_bit, exponent_field, fraction, rank_of, read, write}
 use Rattle.binary32.specs.Whole.{value_neg}
@@ -45,7 +45,7 @@ read_reading p r h = subst Read h (some_reading p)
 read_fields : (p n : ℕ) (b : Bool) → (sign_bit p == 1) ≡ b → magnitude_of p ≡ n → n < beyond → read p ≡ Some (with_sign b n)
 read_fields p n b s m h =
     let ne : exponent_field p ≢ 255 = (λ (e : exponent_field p ≡ 255). omega arith) in
-    cond_false (exponent_field p == 255) None (Some (rank_of p)) (ne_eqb (exponent_field p) 255 ne)
+    cond-false (exponent_field p == 255) None (Some (rank_of p)) (ne_eqb (exponent_field p) 255 ne)
     ∙ ap (λ (x : Bool). Some (with_sign x (magnitude_of p))) s ∙ ap (λ (x : ℕ). Some (with_sign b x)) m
 
 pub reread : (r : ℤ) → Reading r → read (write r) ≡ Some r

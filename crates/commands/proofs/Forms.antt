@@ -2,7 +2,7 @@
 use Rattle.std.proofs.Common.{◌≡◌, ℕ, ◌<◌, true, eqb, List, [], ◌∷◌, Some, None, decimal, Option, sym, refl, ap, ◌∙◌, ⊎_elim, arith}
 use Rattle.std.proofs.lemmas.Fmt.{digits_decimal}
 use Rattle.std.proofs.lemmas.Str.Parse.{numerals_by_value, tells_digits}
-use Rattle.std.proofs.lemmas.Bool.{cond-true, cond_false, eqb-true, cases_Bool}
+use Rattle.std.proofs.lemmas.Bool.{cond-true, cond-false, eqb-true, cases_Bool}
 use Rattle.std.proofs.lemmas.Bool.Decides.{nat_tests}
 use Rattle.std.specs.Str.Parse.{AllDigits}
 use Rattle.std.specs.Char.{digit_value}
@@ -51,12 +51,12 @@ kind_letters b k e =
     ⊎_elim
     (λ t. same Sum t (sym (cond-true _ _ _ t) ∙ e))
     (λ f.
-    let e = sym (cond_false _ _ _ f) ∙ e in
+    let e = sym (cond-false _ _ _ f) ∙ e in
     ⊎_elim
     (λ t. same Difference t (sym (cond-true _ _ _ t) ∙ e))
     (λ f.
-    let e = sym (cond_false _ _ _ f) ∙ e in
-    ⊎_elim (λ t. same Peak t (sym (cond-true _ _ _ t) ∙ e)) (λ f. none_some k (sym (cond_false _ _ _ f) ∙ e)) (cases_Bool (eqb b 112)))
+    let e = sym (cond-false _ _ _ f) ∙ e in
+    ⊎_elim (λ t. same Peak t (sym (cond-true _ _ _ t) ∙ e)) (λ f. none_some k (sym (cond-false _ _ _ f) ∙ e)) (cases_Bool (eqb b 112)))
     (cases_Bool (eqb b 100)))
     (cases_Bool (eqb b 115))
   where

@@ -1,6 +1,6 @@
 -- A line is read as just the command that is written so.
 use Rattle.std.proofs.Common.{◌≡◌, ℕ, true, eqb, List, [], ◌∷◌, Some, None, Option, sym, refl, ap, ◌∙◌, subst, ⊎_elim}
-use Rattle.std.proofs.lemmas.Bool.{cond-true, cond_false, eqb-true, cases_Bool}
+use Rattle.std.proofs.lemmas.Bool.{cond-true, cond-false, eqb-true, cases_Bool}
 use Rattle.words.specs.Words.{words}
 use Rattle.commands.specs.Commands.{last, limit_of, enter_of, settle_of, look_of, strike_of, partner_of, by_letter, command_of}
 use Rattle.commands.specs.Lines.{letter_of, words_of, spaced, line_of, Sized, Reads}
@@ -66,26 +66,26 @@ letter_written b ws c e =
     ⊎_elim
     (λ t. is 76 t (limit_written ws c (sym (cond-true _ _ _ t) ∙ e)))
     (λ f.
-    let e = sym (cond_false _ _ _ f) ∙ e in
+    let e = sym (cond-false _ _ _ f) ∙ e in
     ⊎_elim
     (λ t. is 69 t (enter_written ws c (sym (cond-true _ _ _ t) ∙ e)))
     (λ f.
-    let e = sym (cond_false _ _ _ f) ∙ e in
+    let e = sym (cond-false _ _ _ f) ∙ e in
     ⊎_elim
     (λ t. is 83 t (settle_written ws c (sym (cond-true _ _ _ t) ∙ e)))
     (λ f.
-    let e = sym (cond_false _ _ _ f) ∙ e in
+    let e = sym (cond-false _ _ _ f) ∙ e in
     ⊎_elim
     (λ t. is 82 t (look_written ws c (sym (cond-true _ _ _ t) ∙ e)))
     (λ f.
-    let e = sym (cond_false _ _ _ f) ∙ e in
+    let e = sym (cond-false _ _ _ f) ∙ e in
     ⊎_elim
     (λ t. is 75 t (strike_written ws c (sym (cond-true _ _ _ t) ∙ e)))
     (λ f.
-    let e = sym (cond_false _ _ _ f) ∙ e in
+    let e = sym (cond-false _ _ _ f) ∙ e in
     ⊎_elim
     (λ t. is 80 t (partner_written ws c (sym (cond-true _ _ _ t) ∙ e)))
-    (λ f. none_some c (sym (cond_false _ _ _ f) ∙ e))
+    (λ f. none_some c (sym (cond-false _ _ _ f) ∙ e))
     (cases_Bool (eqb b 80)))
     (cases_Bool (eqb b 75)))
     (cases_Bool (eqb b 82)))
@@ -108,7 +108,7 @@ command_writes (b ∷ s ∷ bs) c e =
     let q = w.letter in
     let r = eqb-true s 32 t in
     (w.sized, cc))
-    (λ f. none_some c (sym (cond_false _ _ _ f) ∙ e))
+    (λ f. none_some c (sym (cond-false _ _ _ f) ∙ e))
     (cases_Bool (eqb s 32))
 
 letter_reads : (c : Command) → Sized c → by_letter (letter_of c) (words_of c) ≡ Some c

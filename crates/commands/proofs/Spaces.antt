@@ -1,6 +1,6 @@
 -- Words and the spaces between them.
 use Rattle.std.proofs.Common.{◌≡◌, ℕ, eqb, List, [], ◌∷◌, ◌++◌, sym, refl, ap, ◌∙◌, ⊎_elim, arith}
-use Rattle.std.proofs.lemmas.Bool.{cond-true, cond_false, ne_eqb, eqb-true, cases_Bool}
+use Rattle.std.proofs.lemmas.Bool.{cond-true, cond-false, ne_eqb, eqb-true, cases_Bool}
 use Rattle.std.specs.List.{AllByRecursion as All}
 use Rattle.words.specs.Words.{words, onto}
 use Rattle.commands.specs.Lines.{spaced}
@@ -12,7 +12,7 @@ Clear w = All (λ b. b ≡ 32 → ⊥) w
 words_word : (w : List ℕ) (ws : List (List ℕ)) → Clear w → words (spaced ws) ≡ [] ∷ ws → words (w ++ spaced ws) ≡ w ∷ ws
 words_word [] ws clear e = e
 words_word (b ∷ w) ws clear e =
-    cond_false _ _ _ (ne_eqb b 32 clear.0) ∙ ap (onto b) (words_word w ws clear.1 e)
+    cond-false _ _ _ (ne_eqb b 32 clear.0) ∙ ap (onto b) (words_word w ws clear.1 e)
 
 words_spaced : (ws : List (List ℕ)) → All Clear ws → words (spaced ws) ≡ [] ∷ ws
 words_spaced [] clear = refl
@@ -33,5 +33,5 @@ spaced_words (b ∷ bs) =
     let h = spaced_words bs in
     ⊎_elim
     (λ t. ap spaced (cond-true _ _ _ t) ∙ ap (λ s. 32 ∷ s) h ∙ ap (λ c. 32 ∷ c ∷ bs) (sym (eqb-true b 32 t)))
-    (λ f. ap spaced (cond_false _ _ _ f) ∙ spaced_onto b (words bs) bs h)
+    (λ f. ap spaced (cond-false _ _ _ f) ∙ spaced_onto b (words bs) bs h)
     (cases_Bool (eqb b 32))

@@ -4,7 +4,7 @@ use lib.Signed.{lt_z}
 use Rattle.std.specs.Int.{int_max, int_min}
 use Rattle.std.proofs.lemmas.List.{length-set}
 use Rattle.std.proofs.lemmas.Int.{ints}
-use Rattle.std.proofs.lemmas.Bool.{cases_Bool, cond-true, cond_false, cond_both, or_from}
+use Rattle.std.proofs.lemmas.Bool.{cases_Bool, cond-true, cond-false, cond_both, or_from}
 use Rattle.catalogue.specs.declared.types.Range.{Range}
 use Rattle.catalogue.specs.declared.types.Triple.{Triple}
 use Rattle.catalogue.specs.Meanings.{Meaning, Laws}
@@ -24,8 +24,8 @@ no_smaller a b h = or_from (lt_z a.low (int_max a.low b.low)) (lt_z (int_min a.h
 cut_alone : (r : ℕ) (b : Range) (t : Table) → Proper (range_at t r) → Within (range_at t r) b → cut r b t ≡ Some t
 cut_alone r b t p h =
     let a = range_at t r in
-    cond_false (empty (meet a b)) None (Some (cut_table r b t)) (some_left a a b p (within_self a) h)
-    ∙ ap Some (cond_false (smaller (meet a b) a) (changed r (meet a b) t) t (no_smaller a b h))
+    cond-false (empty (meet a b)) None (Some (cut_table r b t)) (some_left a a b p (within_self a) h)
+    ∙ ap Some (cond-false (smaller (meet a b) a) (changed r (meet a b) t) t (no_smaller a b h))
 
 absorbed_alone : (l : Line) (o : Option Triple) (t : Table) → Passes l → ((r : ℕ) → r < 32 → Proper (range_at t r)) → WithinO (Some (given l t)) o → absorbed l o t ≡ Some t
 absorbed_alone l None t p proper h = absurd h
@@ -56,7 +56,7 @@ cut_table_left r b t lt wide =
 cut_left : (r : ℕ) (b : Range) (t u : Table) → r < 32 → length t.ranges ≡ 32 → cut r b t ≡ Some u → Left r b t u
 cut_left r b t u lt wide e = ⊎_elim
     (λ d. let h = sym (cond-true (empty (meet (range_at t r) b)) None (Some (cut_table r b t)) d) ∙ e in let z : ◌≡◌ {A = ℕ} 0 1 = cc in absurd (omega arith))
-    (λ d. let h = sym (cond_false (empty (meet (range_at t r) b)) None (Some (cut_table r b t)) d) ∙ e in
+    (λ d. let h = sym (cond-false (empty (meet (range_at t r) b)) None (Some (cut_table r b t)) d) ∙ e in
     let same : cut_table r b t ≡ u = cc in
     subst (Left r b t) same (cut_table_left r b t lt wide))
     (cases_Bool (empty (meet (range_at t r) b)))

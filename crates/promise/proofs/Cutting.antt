@@ -1,7 +1,7 @@
 -- A cut of one register keeps the invariant of a table that is not void.
 use Rattle.std.proofs.Common.{◌≡◌, ℕ, ◌<◌, true, false, ◌&&◌, ◌||◌, eqb, ◌≢◌, length, get_or, set, Some, sym, refl, ap, ◌∙◌, subst, ⊎_elim, arith}
 use Rattle.std.proofs.lemmas.List.{get_or-set_same, get_or-set_other, length-set}
-use Rattle.std.proofs.lemmas.Bool.{cases_eq, cases_Bool, both_ways, cond-true, cond_false, cond_both, eqb-false, eq-eqb, and_parts, or_cases, or_left, or_right, or_parts}
+use Rattle.std.proofs.lemmas.Bool.{cases_eq, cases_Bool, both_ways, cond-true, cond-false, cond_both, eqb-false, eq-eqb, and_parts, or_cases, or_left, or_right, or_parts}
 use Rattle.catalogue.specs.declared.types.Range.{Range}
 use Rattle.catalogue.specs.Meanings.{Meaning}
 use Rattle.catalogue.specs.Ranges.{Within, Proper, meet}
@@ -115,7 +115,7 @@ cut_self at t shape n l here r lt nm b du =
     (λ d. let e = cond-true (smaller new a) (changed r new t) t d in
     let on : has (changed r new t).due n ≡ true = union_has t.due (naming_at t r) n ∙ or_right (has t.due n) (has (naming_at t r) n) (naming at t shape n l here r lt ∙ nm) in
     absurd (both_ways (has (changed r new t).due n) (subst (λ u. has u.due n ≡ false) e du) on))
-    (λ d. (cond_false (smaller new a) (changed r new t) t d, covers a b d))
+    (λ d. (cond-false (smaller new a) (changed r new t) t d, covers a b d))
     (cases_Bool (smaller new a))
 
 pub cut_limits : (r : ℕ) (b : Range) (t : Table) → (cut_table r b t).limits ≡ t.limits

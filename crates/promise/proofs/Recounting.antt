@@ -4,7 +4,7 @@ use mathlib.Core.Path.{fun_ext}
 use lib.Signed.{lt_z}
 use Rattle.std.proofs.lemmas.List.{get_or-replicate}
 use Rattle.std.proofs.lemmas.Int.{ints}
-use Rattle.std.proofs.lemmas.Bool.{cases_eq, cases_Bool, both_ways, cond-true, cond_false, cond_both, eq-eqb, ne_eqb, ltb-true, ltb-false, lt-ltb, le-ltb, and_from, and_left, and_right, or_cases, or_parts, not-true, not-false}
+use Rattle.std.proofs.lemmas.Bool.{cases_eq, cases_Bool, both_ways, cond-true, cond-false, cond_both, eq-eqb, ne_eqb, ltb-true, ltb-false, lt-ltb, le-ltb, and_from, and_left, and_right, or_cases, or_parts, not-true, not-false}
 use Rattle.catalogue.specs.declared.types.Range.{Range}
 use Rattle.catalogue.specs.Meanings.{Meaning, Laws, all_readings}
 use Rattle.catalogue.specs.Ranges.{Within, Proper}
@@ -73,7 +73,7 @@ module _ (m : Meaning) (laws : Laws m) where
       let made : Range = record { low = l; high = h } in
       ⊎_elim
       (λ d. let f = sym (cond-true (lt_z h l) (Err 3) (Ok made) d) ∙ e in let z : ◌≡◌ {A = ℕ} 0 1 = cc in absurd (omega arith))
-      (λ d. let f = sym (cond_false (lt_z h l) (Err 3) (Ok made) d) ∙ e in
+      (λ d. let f = sym (cond-false (lt_z h l) (Err 3) (Ok made) d) ∙ e in
       let same : made ≡ b = cc in
       let p : l ≤ℤ h = grind (arith, ints) in
       subst (Right r) same (record { register = lt; proper = p; readings = ((laws.reads low l el).0, (laws.reads high h eh).1) }))
@@ -83,7 +83,7 @@ module _ (m : Meaning) (laws : Laws m) where
   asked_right r low high b e = ⊎_elim
       (λ d. let f = sym (cond-true (ltb 31 r) (Err 1) (limits_read (m.reads low) (m.reads high)) d) ∙ e in let z : ◌≡◌ {A = ℕ} 0 1 = cc in absurd (omega arith))
       (λ d. let le : r ≤ 31 = ltb-false 31 r d in
-      read_right r low high (omega arith) (m.reads low) (m.reads high) refl refl b (sym (cond_false (ltb 31 r) (Err 1) (limits_read (m.reads low) (m.reads high)) d) ∙ e))
+      read_right r low high (omega arith) (m.reads low) (m.reads high) refl refl b (sym (cond-false (ltb 31 r) (Err 1) (limits_read (m.reads low) (m.reads high)) d) ∙ e))
       (cases_Bool (ltb 31 r))
 
   got_none : (b : Bool) (e : ℕ) (old : Range) → limits_got b (Err e) old ≡ old
@@ -109,7 +109,7 @@ abbrev striking : ℕ → Drawn → Drawn
 striking n at k = cond (eqb n k) None (at k)
 
 pub entering_off : (n : ℕ) (l : Line) (at : Drawn) (k : ℕ) → (k ≡ n → ⊥) → entering n l at k ≡ at k
-entering_off n l at k ne = cond_false (wanted n l at k) (Some l) (at k) (and_left (eqb n k && ltb k 64) _ (and_left (eqb n k) (ltb k 64) (ne_eqb n k (λ e. ne (sym e)))))
+entering_off n l at k ne = cond-false (wanted n l at k) (Some l) (at k) (and_left (eqb n k && ltb k 64) _ (and_left (eqb n k) (ltb k 64) (ne_eqb n k (λ e. ne (sym e)))))
 
 pub entering_own : (n : ℕ) (l : Line) (at : Drawn) → n < 64 → passes_check l ≡ true → at n ≡ None → entering n l at n ≡ Some l
 entering_own n l at lt p e = cond-true (wanted n l at n) (Some l) (at n)
@@ -118,12 +118,12 @@ entering_own n l at lt p e = cond-true (wanted n l at n) (Some l) (at n)
 -- an enter that is declined changes no line
 declined : (n : ℕ) (l : Line) (at : Drawn) → wanted n l at n ≡ false → at ≡ entering n l at
 declined n l at no_test = fun_ext (λ k. ⊎_elim
-    (λ (e : k ≡ n). subst (λ q. at q ≡ entering n l at q) (sym e) (sym (cond_false (wanted n l at n) (Some l) (at n) no_test)))
+    (λ (e : k ≡ n). subst (λ q. at q ≡ entering n l at q) (sym e) (sym (cond-false (wanted n l at n) (Some l) (at n) no_test)))
     (λ (ne : k ≢ n). sym (entering_off n l at k ne))
     (cases_eq k n))
 
 pub striking_off : (n : ℕ) (at : Drawn) (k : ℕ) → (k ≡ n → ⊥) → striking n at k ≡ at k
-striking_off n at k ne = cond_false (eqb n k) None (at k) (ne_eqb n k (λ e. ne (sym e)))
+striking_off n at k ne = cond-false (eqb n k) None (at k) (ne_eqb n k (λ e. ne (sym e)))
 
 pub striking_own : (n : ℕ) (at : Drawn) → striking n at n ≡ None
 striking_own n at = cond-true (eqb n n) None (at n) (eq-eqb n n refl)

@@ -1,6 +1,6 @@
 -- A line that passes the check is made again from its row; and a checked line passes the check.
 use Rattle.std.proofs.Common.{◌≡◌, ℕ, ◌<◌, true, false, cond, ◌&&◌, ◌||◌, eqb, ltb, Some, None, Ok, Err, Option, Result, refl, ap, ◌∙◌, arith}
-use Rattle.std.proofs.lemmas.Bool.{and_parts, and_from, or_parts, or_from, cond_both, cond-true, cond_false, eqb-false, ltb-true, ltb-false, lt-ltb, le-ltb, ne_eqb}
+use Rattle.std.proofs.lemmas.Bool.{and_parts, and_from, or_parts, or_from, cond_both, cond-true, cond-false, eqb-false, ltb-true, ltb-false, lt-ltb, le-ltb, ne_eqb}
 use Rattle.catalogue.specs.declared.types.Kind.{Kind}
 use Rattle.catalogue.specs.declared.types.Kind.TheVariants.{Sum, Difference, Peak}
 use Rattle.sheet.specs.declared.lines.CheckedLine.{CheckedLine}
@@ -45,8 +45,8 @@ remade l h =
     let bad : (ltb 31 l.x || (ltb 31 l.y || ltb 31 l.z)) ≡ false = or_from (ltb 31 l.x) _ bad-x (or_from (ltb 31 l.y) (ltb 31 l.z) bad-y bad-z) in
     let here : Result Line ℕ = cond (ltb 31 l.x || (ltb 31 l.y || ltb 31 l.z)) (Err 1) (Ok l) in
     ap (λ k. checked_kind k d) (kind_again l.kind)
-    ∙ cond_false (eqb s 0 || ltb 15 s) (Err 5) here bad-modes
-    ∙ cond_false (ltb 31 l.x || (ltb 31 l.y || ltb 31 l.z)) (Err 1) (Ok l) bad
+    ∙ cond-false (eqb s 0 || ltb 15 s) (Err 5) here bad-modes
+    ∙ cond-false (ltb 31 l.x || (ltb 31 l.y || ltb 31 l.z)) (Err 1) (Ok l) bad
 
 -- a checked line passes the check, so that an enter of one is the call of a history
 pub checked_passes : (c : CheckedLine) → passes_check c.line ≡ true

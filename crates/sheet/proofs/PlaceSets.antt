@@ -5,7 +5,7 @@ use Prim.Native.Nat.{differ}
 use lib.Bits.{bit_or, bit_xor, or_step, or_shr, xor_step, xor_shr}
 use lib.Count.{count_trailing_zeros, under}
 use Rattle.std.proofs.lemmas.Nat.{shr-shr}
-use Rattle.std.proofs.lemmas.Bool.{eq-eqb, ne_eqb, eqb-true, eqb-false, cond_both, cond-true, cond_false, cases_Bool}
+use Rattle.std.proofs.lemmas.Bool.{eq-eqb, ne_eqb, eqb-true, eqb-false, cond_both, cond-true, cond-false, cases_Bool}
 use Rattle.sheet.specs.declared.places.Places.{Places}
 use Rattle.sheet.specs.Places.{has, none, with_place, without, union, is_none, lowest}
 
@@ -168,7 +168,7 @@ set_below s h =
 pub lowest_in : (s : Places) (n : ℕ) → ((k : ℕ) → has s k ≡ true → k < 64) → lowest s ≡ Some n → has s n ≡ true
 lowest_in s n h e = ⊎_elim
     (λ d. let k = sym (cond-true (is_none s) None (Some (count_trailing_zeros 64 s.bits)) d) ∙ e in let z : ◌≡◌ {A = ℕ} 0 1 = cc in absurd (omega arith))
-    (λ d. let k = sym (cond_false (is_none s) None (Some (count_trailing_zeros 64 s.bits)) d) ∙ e in
+    (λ d. let k = sym (cond-false (is_none s) None (Some (count_trailing_zeros 64 s.bits)) d) ∙ e in
     let i : count_trailing_zeros 64 s.bits ≡ n = cc in
     let ne : s.bits ≡ 0 → ⊥ = eqb-false s.bits 0 d in
     let t = trails 64 s.bits (omega arith) (set_below s h) in

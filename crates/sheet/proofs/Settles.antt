@@ -1,6 +1,6 @@
 -- Steps, one after another: what each turn of a settle's loop adds, and what holds of the steps in all.
 use Rattle.std.proofs.Common.{◌≡◌, ℕ, zero, suc, ◌+◌, ◌-◌, ◌<◌, ◌≤◌, true, false, refl, ap, ◌∙◌, arith}
-use Rattle.std.proofs.lemmas.Bool.{cond-true, cond_false, cond_both, both_ways}
+use Rattle.std.proofs.lemmas.Bool.{cond-true, cond-false, cond_both, both_ways}
 use Rattle.catalogue.specs.Meanings.{Meaning}
 use Rattle.sheet.specs.declared.table.Event.TheVariants.{Step}
 use Rattle.sheet.specs.declared.table.Table.{Table}
@@ -27,7 +27,7 @@ module _ (m : Meaning) where
   pub settled_on : (b k : ℕ) (t : Table) → k < b → at_rest t.state ≡ false → settled m (b - k) t ≡ after_steps 1 (settled m (b - (k + 1)) (next t))
   settled_on b k t lt h =
       let e : b - k ≡ suc (b - (k + 1)) = omega arith in
-      ap (λ n. settled m n t) e ∙ cond_false (at_rest t.state) (settling t 0) (after_steps 1 (settled m (b - (k + 1)) (next t))) h
+      ap (λ n. settled m n t) e ∙ cond-false (at_rest t.state) (settling t 0) (after_steps 1 (settled m (b - (k + 1)) (next t))) h
 
   -- steps in words
   pub settled_steps : (b : ℕ) (t : Table) → Steps b t (settled m b t)

@@ -1,6 +1,6 @@
 -- A pattern is read from just the word of eight digits that is written of it.
 use Rattle.std.proofs.Common.{◌≡◌, ℕ, ◌+◌, ◌*◌, ◌/◌, ◌%◌, ◌^◌, ◌<◌, false, eqb, ltb, List, [], ◌∷◌, map, length, Some, Option, sym, refl, ap, ◌∙◌, ⊎_elim, arith, rules}
-use Rattle.std.proofs.lemmas.Bool.{cond-true, cond_false, lt-ltb, ltb-true, ne_eqb, cases_Bool}
+use Rattle.std.proofs.lemmas.Bool.{cond-true, cond-false, lt-ltb, ltb-true, ne_eqb, cases_Bool}
 use Rattle.std.proofs.lemmas.Bool.Decides.{nat_tests}
 use Rattle.std.specs.Int.Digits.{AllBelowBase, number_from_digits_after}
 use Rattle.words.proofs.Inverses.{none_some, inverts_from}
@@ -36,7 +36,7 @@ read_glyphs n m (b ∷ bs) e =
     let g = glyph_worth b h in
     let i = r.glyphs in
     record { under = (h, r.under); glyphs = cc; number = r.number })
-    (λ f. none_some m (sym (cond_false _ _ _ f) ∙ e))
+    (λ f. none_some m (sym (cond-false _ _ _ f) ∙ e))
     (cases_Bool (ltb (worth b) 16))
 
 -- eight digits are those of the number that they write
@@ -80,7 +80,7 @@ pattern_writes (a ∷ b ∷ c ∷ d ∷ f ∷ g ∷ h ∷ []) n e = none_some n 
 pattern_writes (a ∷ b ∷ c ∷ d ∷ f ∷ g ∷ h ∷ i ∷ []) n e = eight_written a b c d f g h i n e
 pattern_writes (a ∷ b ∷ c ∷ d ∷ f ∷ g ∷ h ∷ i ∷ j ∷ bs) n e =
     let long : eqb (length (a ∷ b ∷ c ∷ d ∷ f ∷ g ∷ h ∷ i ∷ j ∷ bs)) 8 ≡ false = ne_eqb _ 8 (λ z. omega arith) in
-    none_some n (sym (cond_false _ _ _ long) ∙ e)
+    none_some n (sym (cond-false _ _ _ long) ∙ e)
 
 pub writes_pattern : (w : List ℕ) (n : ℕ) → n < 2 ^ 32 → written n ≡ w → pattern_of w ≡ Some n
 writes_pattern w n h e = ap pattern_of (sym e) ∙ glyphs_read 0 (digits_of n) (under n) ∙ ap Some (join n h)

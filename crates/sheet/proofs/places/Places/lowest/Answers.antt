@@ -1,6 +1,6 @@
 -- `Places::lowest` is the number of zero bits at the end of the set's number (PlaceSets).
 use Rattle.std.proofs.Common.{◌≡◌, ◌<◌, false, Some, None, sym, rules}
-use Rattle.std.proofs.lemmas.Bool.{cond_false, eqb-false}
+use Rattle.std.proofs.lemmas.Bool.{cond-false, eqb-false}
 use Rattle.sheet.specs.Places.{is_none}
 use Rattle.sheet.proofs.PlaceSets.{trails, has_true, has_false}
 use Rattle.sheet.proofs.places.Places.lowest.Goals as goal
@@ -13,6 +13,6 @@ returns-else-is_none c =
     let p : 0 < s.bits = search rules in
     let t = trails 64 s.bits p (search rules) in
     record {
-      value = sym (cond_false (is_none s) None (Some _) some);
+      value = sym (cond-false (is_none s) None (Some _) some);
       words = (t.within, has_true s _ t.here, λ k h. has_false s k (t.below k h));
     }
