@@ -64,7 +64,7 @@ impl Table {
 impl<C: Catalogue> Sheet<C> {
     /// A sheet with no lines, and limits from the least to the greatest reading.
     pub fn new(catalogue: C) -> Self
-        ensures table { result.table ≡ new_table (meaning catalogue) }
+        ensures table { result.table ≡ new_table (C.meaning catalogue) }
         ensures catalogue { result.catalogue ≡ catalogue }
     {
         let table = Table::new(catalogue.ends());
@@ -73,7 +73,7 @@ impl<C: Catalogue> Sheet<C> {
 
     /// The limits that a call of limit asks for, or why it is declined.
     fn limits(&self, register: u32, low: u32, high: u32) -> Result<Range, Refusal>
-        ensures { numbered result ≡ limit_asked (meaning self.now.catalogue) register low high }
+        ensures { numbered result ≡ limit_asked (C.meaning self.now.catalogue) register low high }
     {
         if register > 31 {
             return Err(Refusal::NoSuchRegister);
@@ -88,8 +88,8 @@ impl<C: Catalogue> Sheet<C> {
 
     /// Replaces a register's limits by those from one pattern to another.
     pub fn limit(&mut self, register: u32, low: u32, high: u32) -> Result<(), Refusal>
-        ensures answer { numbered result ≡ done (limit_asked (meaning self.old.catalogue) register low high) }
-        ensures table { self.new.table ≡ limit_table (meaning self.old.catalogue) register (limit_asked (meaning self.old.catalogue) register low high) self.old.table }
+        ensures answer { numbered result ≡ done (limit_asked (C.meaning self.old.catalogue) register low high) }
+        ensures table { self.new.table ≡ limit_table (C.meaning self.old.catalogue) register (limit_asked (C.meaning self.old.catalogue) register low high) self.old.table }
         ensures catalogue { self.new.catalogue ≡ self.old.catalogue }
     {
         let limits = self.limits(register, low, high)?;
@@ -100,7 +100,7 @@ impl<C: Catalogue> Sheet<C> {
     /// Enters a checked line at a free place; a refusal hands the line back.
     pub fn enter(&mut self, place: u32, line: CheckedLine) -> Result<(), (Refusal, CheckedLine)>
         ensures answer { enter_answer result ≡ enter_asked place line self.old.table }
-        ensures table { self.new.table ≡ enter_table (meaning self.old.catalogue) place line self.old.table }
+        ensures table { self.new.table ≡ enter_table (C.meaning self.old.catalogue) place line self.old.table }
         ensures catalogue { self.new.catalogue ≡ self.old.catalogue }
     {
         if place > 63 {
@@ -123,7 +123,7 @@ impl<C: Catalogue> Sheet<C> {
     /// Removes the line at a place; all ranges return to the limits, and the remaining lines are due.
     pub fn strike(&mut self, place: u32) -> Result<(), Refusal>
         ensures answer { numbered result ≡ strike_asked place self.old.table }
-        ensures table { self.new.table ≡ strike_table (meaning self.old.catalogue) place self.old.table }
+        ensures table { self.new.table ≡ strike_table (C.meaning self.old.catalogue) place self.old.table }
         ensures catalogue { self.new.catalogue ≡ self.old.catalogue }
     {
         if self.has_no_line(place) {
@@ -135,14 +135,14 @@ impl<C: Catalogue> Sheet<C> {
 
     /// The ranks of two patterns.
     fn ranks(&self, x: u32, z: u32) -> Result<(i32, i32), Refusal>
-        ensures { numbered result ≡ both_read ((meaning self.now.catalogue).reads x) ((meaning self.now.catalogue).reads z) }
+        ensures { numbered result ≡ both_read ((C.meaning self.now.catalogue).reads x) ((C.meaning self.now.catalogue).reads z) }
     {
         Ok((self.catalogue.rank(x)?, self.catalogue.rank(z)?))
     }
 
     /// Some y of a line's shown range that makes an allowed triple with x and z, as a pattern.
     fn partner_of(&self, checked: &CheckedLine, x: i32, z: i32) -> Option<u32>
-        ensures { result ≡ pattern_or_none (meaning self.now.catalogue) (named_partner (meaning self.now.catalogue) checked.now.line (x, z) self.now.table) }
+        ensures { result ≡ pattern_or_none (C.meaning self.now.catalogue) (named_partner (C.meaning self.now.catalogue) checked.now.line (x, z) self.now.table) }
     {
         let line = checked.line;
         let y = self.table.ranges[line.y as usize];
@@ -154,7 +154,7 @@ impl<C: Catalogue> Sheet<C> {
 
     /// The partner that the catalogue names, or why the call is declined.
     fn named_partner(&self, place: u32, x: u32, z: u32) -> Result<Option<u32>, Refusal>
-        ensures { numbered result ≡ partner_asked (meaning self.now.catalogue) place x z self.now.table }
+        ensures { numbered result ≡ partner_asked (C.meaning self.now.catalogue) place x z self.now.table }
     {
         if self.has_no_line(place) {
             return Err(Refusal::NoLineThere);
@@ -171,16 +171,16 @@ impl<C: Catalogue> Sheet<C> {
 
     /// Some y in the shown range of a line's y that makes an allowed triple with the patterns x and z, or none.
     pub fn partner(&self, place: u32, x: u32, z: u32) -> Result<Option<u32>, Refusal>
-        ensures answer { numbered result ≡ partner_asked (meaning self.now.catalogue) place x z self.now.table }
-        ensures choice { (l : Line) (p : ℤ × ℤ) → Partnered (meaning self.now.catalogue) l p self.now.table }
+        ensures answer { numbered result ≡ partner_asked (C.meaning self.now.catalogue) place x z self.now.table }
+        ensures choice { (l : Line) (p : ℤ × ℤ) → Partnered (C.meaning self.now.catalogue) l p self.now.table }
     {
         self.named_partner(place, x, z)
     }
 
     /// Steps until rest or until the budget is spent, whatever the budget.
     fn run(&mut self, budget: u32) -> (Outcome, u32)
-        ensures answer { run_answer result ≡ run_asked (settled (meaning self.old.catalogue) budget self.old.table) }
-        ensures table { self.new.table ≡ (settled (meaning self.old.catalogue) budget self.old.table).table }
+        ensures answer { run_answer result ≡ run_asked (settled (C.meaning self.old.catalogue) budget self.old.table) }
+        ensures table { self.new.table ≡ (settled (C.meaning self.old.catalogue) budget self.old.table).table }
         ensures catalogue { self.new.catalogue ≡ self.old.catalogue }
     {
         let steps = self.table.settle(&self.catalogue, budget);
@@ -189,10 +189,10 @@ impl<C: Catalogue> Sheet<C> {
 
     /// Steps until rest or until the budget is spent: how it ended, and how many steps were made.
     pub fn settle(&mut self, budget: u32) -> Result<(Outcome, u32), Refusal>
-        ensures answer { settle_answer result ≡ settle_asked (meaning self.old.catalogue) budget self.old.table }
-        ensures table { self.new.table ≡ settle_table (meaning self.old.catalogue) budget self.old.table }
+        ensures answer { settle_answer result ≡ settle_asked (C.meaning self.old.catalogue) budget self.old.table }
+        ensures table { self.new.table ≡ settle_table (C.meaning self.old.catalogue) budget self.old.table }
         ensures catalogue { self.new.catalogue ≡ self.old.catalogue }
-        ensures words { (b : ℕ) → Steps b self.old.table (settled (meaning self.old.catalogue) b self.old.table) }
+        ensures words { (b : ℕ) → Steps b self.old.table (settled (C.meaning self.old.catalogue) b self.old.table) }
     {
         if is_bad_budget(budget) {
             return Err(Refusal::BudgetOutOfRange);
@@ -224,7 +224,7 @@ impl<C: Catalogue> Look<'_, C> {
 
     /// A register's range by the patterns of its low and its high end.
     pub fn patterns(&self, register: u32) -> Result<(u32, u32), Refusal>
-        ensures { numbered result ≡ in_patterns (meaning self.now.sheet.now.catalogue) (shown register self.now.sheet.now.table) }
+        ensures { numbered result ≡ in_patterns (C.meaning self.now.sheet.now.catalogue) (shown register self.now.sheet.now.table) }
     {
         let range = self.range(register)?;
         let catalogue = &self.sheet.catalogue;

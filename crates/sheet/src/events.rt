@@ -22,7 +22,7 @@ impl Table {
     /// What the table makes of an event in the state that it is in; `at` is the register or the place that it is about.
     fn react<C: Catalogue>(&mut self, catalogue: &C, event: Event, at: u8)
         requires { Fitting event at }
-        ensures { self.new ≡ reacted (meaning catalogue.now) self.old.state event at self.old }
+        ensures { self.new ≡ reacted (C.meaning catalogue.now) self.old.state event at self.old }
     {
         match (self.state, event) {
             (State::Void, Event::Tightened | Event::Entered | Event::Step) => {}
@@ -49,7 +49,7 @@ impl Table {
     /// Replaces a register's limits.
     pub(crate) fn limit<C: Catalogue>(&mut self, catalogue: &C, register: u8, limits: Range)
         requires { register < 32 }
-        ensures { self.new ≡ limited (meaning catalogue.now) register limits self.old }
+        ensures { self.new ≡ limited (C.meaning catalogue.now) register limits self.old }
     {
         let event = self.limit_event(register, limits);
         self.limits[register as usize] = limits;
@@ -79,7 +79,7 @@ impl Table {
     /// Enters a checked line at a free place.
     pub(crate) fn enter<C: Catalogue>(&mut self, catalogue: &C, place: u8, checked: CheckedLine)
         requires { place < 64 }
-        ensures { self.new ≡ entered (meaning catalogue.now) place checked.line self.old }
+        ensures { self.new ≡ entered (C.meaning catalogue.now) place checked.line self.old }
     {
         self.put(place, checked.line);
         self.react(catalogue, Event::Entered, place);
@@ -117,7 +117,7 @@ impl Table {
     /// Strikes the line at a place.
     pub(crate) fn strike<C: Catalogue>(&mut self, catalogue: &C, place: u8)
         requires { place < 64 }
-        ensures { self.new ≡ struck (meaning catalogue.now) place self.old }
+        ensures { self.new ≡ struck (C.meaning catalogue.now) place self.old }
     {
         self.remove(place);
         self.react(catalogue, Event::Struck, place);
@@ -125,7 +125,7 @@ impl Table {
 
     /// Steps until rest, or until the budget is spent; answers how many steps were made.
     pub(crate) fn settle<C: Catalogue>(&mut self, catalogue: &C, budget: u32) -> u32
-        ensures { settled (meaning catalogue.now) budget self.old ≡ record { table = self.new; steps = result } }
+        ensures { settled (C.meaning catalogue.now) budget self.old ≡ record { table = self.new; steps = result } }
     {
         for made in 0..budget {
             if is_at_rest(self.state) {

@@ -134,7 +134,7 @@ impl Table {
     fn narrow<C: Catalogue>(&mut self, catalogue: &C, line: Line) -> bool
         requires { (line.x < 32) × (line.y < 32) × (line.z < 32) }
         ensures void { voided self.new ≡ voided self.old }
-        ensures after { narrowed_by (meaning catalogue.now) line self.old ≡ (if result then Some self.new else None) }
+        ensures after { narrowed_by (C.meaning catalogue.now) line self.old ≡ (if result then Some self.new else None) }
     {
         match catalogue.narrow(line.kind, line.modes, self.given(line)) {
             Some(results) => self.absorb(line, results),
@@ -144,7 +144,7 @@ impl Table {
 
     /// Narrows a checked line; the table then rests, is open or is void.
     fn step_line<C: Catalogue>(&mut self, catalogue: &C, checked: &CheckedLine)
-        ensures { self.new ≡ or_void self.old (narrowed_by (meaning catalogue.now) checked.now.line self.old) }
+        ensures { self.new ≡ or_void self.old (narrowed_by (C.meaning catalogue.now) checked.now.line self.old) }
     {
         if self.narrow(catalogue, checked.line) {
             self.rest();
@@ -155,7 +155,7 @@ impl Table {
 
     /// Takes the line at the lowest due place, which stops being due, and narrows it.
     pub(crate) fn step<C: Catalogue>(&mut self, catalogue: &C)
-        ensures { self.new ≡ Stepped (meaning catalogue.now) self.old }
+        ensures { self.new ≡ Stepped (C.meaning catalogue.now) self.old }
     {
         let Some(place) = self.due.lowest() else {
             return;

@@ -16,7 +16,7 @@ overflow_mul-number c =
 pub returns-in_err-number : goal.returns-in_err-number
 returns-in_err-number c =
     let s = numeral_stop c.args.base c.loop-byte.number c.args.word.now c.loop-byte.byte-index c.loop-byte-test.true (no_digit _ _ c.in_err-number.ensures) in
-    c.from-residual.ensures ∙ sym s ∙ c.loop-byte.invariant.1
+    c.from_residual.ensures ∙ sym s ∙ c.loop-byte.invariant.1
 
 step : (c : goal.In_ok-number) → (c.loop-byte.number * c.args.base + c.in_ok-number.field-0 < c.args.base ^ (c.loop-byte.byte-index + 1)) × (c.loop-byte.number * c.args.base + c.in_ok-number.field-0 < 2 ^ 32)
 step c =
