@@ -26,7 +26,7 @@ pub enum Answer {
 pub fn write(out: &mut String, answer: Answer) -> Result<(), AllocError>
     ensures { string_bytes out.new ≡ (if is_ok result then string_bytes out.old ++ line_of (reply_of answer) else string_bytes out.old) }
 {
-    let line = format!(in out.allocator(); "{answer}\n")?;
+    let line = format!(in *out.allocator(); "{answer}\n")?;
     out.push_str(line.as_str())
 }
 

@@ -21,7 +21,7 @@ pub struct Shown {
 
 /// What a sheet shows of a register.
 fn look_at<C: Catalogue>(sheet: &Sheet<C>, register: u32) -> Result<Shown, Refusal>
-    ensures { show_answer result ≡ show_asked (meaning sheet.now.catalogue) register sheet.now.table }
+    ensures { show_answer result ≡ show_asked (C.meaning sheet.now.catalogue) register sheet.now.table }
 {
     let look = sheet.look()?;
     let (low, high) = look.patterns(register)?;
@@ -34,10 +34,10 @@ fn look_at<C: Catalogue>(sheet: &Sheet<C>, register: u32) -> Result<Shown, Refus
 
 /// What a sheet shows of a register. Whatever calls led to the sheet, it shows what the promise says.
 pub fn show<C: Catalogue>(sheet: &Sheet<C>, register: u32) -> Result<Shown, Refusal>
-    ensures answer { show_answer result ≡ show_asked (meaning sheet.now.catalogue) register sheet.now.table }
-    ensures shows { (h : List Call) → sheet.now.table ≡ after (meaning sheet.now.catalogue) h → Shows (meaning sheet.now.catalogue) h sheet.now.table }
-    ensures promise { Promise (meaning sheet.now.catalogue) }
-    ensures consequences { Consequences (meaning sheet.now.catalogue) }
+    ensures answer { show_answer result ≡ show_asked (C.meaning sheet.now.catalogue) register sheet.now.table }
+    ensures shows { (h : List Call) → sheet.now.table ≡ after (C.meaning sheet.now.catalogue) h → Shows (C.meaning sheet.now.catalogue) h sheet.now.table }
+    ensures promise { Promise (C.meaning sheet.now.catalogue) }
+    ensures consequences { Consequences (C.meaning sheet.now.catalogue) }
 {
     look_at(sheet, register)
 }
