@@ -10,7 +10,12 @@ returns-in-32 c =
     let v = command_at c.args.line.now _ (search rules) (search rules) (rw c.from.ensures at c.lettered.ensures) in
     record { value = v; reads = read_law _ _ v }
 
-pub returns-in-default : goal.returns-in-default
-returns-in-default c =
+pub returns-in_default : goal.returns-in_default
+returns-in_default c =
+    let v : None ≡ command_of c.args.line.now = search rules in
+    record { value = v; reads = read_law _ None v }
+
+pub returns-in_default-2 : goal.returns-in_default-2
+returns-in_default-2 c =
     let v : None ≡ command_of c.args.line.now = search rules in
     record { value = v; reads = read_law _ None v }
