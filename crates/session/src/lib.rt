@@ -44,7 +44,7 @@ fn done_or(res: Result<(), Refusal>) -> Answer
 /// Checks a drawn line and enters it.
 fn enter<C: Catalogue>(sheet: &mut Sheet<C>, place: u32, drawn: DrawnLine) -> Result<(), Refusal>
     ensures answer { numbered result ≡ drawn_asked place (checked drawn) sheet.old.table }
-    ensures table { sheet.new.table ≡ drawn_table (meaning sheet.old.catalogue) place (checked drawn) sheet.old.table }
+    ensures table { sheet.new.table ≡ drawn_table (C.meaning sheet.old.catalogue) place (checked drawn) sheet.old.table }
     ensures catalogue { sheet.new.catalogue ≡ sheet.old.catalogue }
 {
     let line = drawn.check()?;
@@ -59,8 +59,8 @@ fn enter<C: Catalogue>(sheet: &mut Sheet<C>, place: u32, drawn: DrawnLine) -> Re
 
 /// Settles, and says how it ended.
 fn settle<C: Catalogue>(sheet: &mut Sheet<C>, budget: u32) -> Answer
-    ensures answer { reply_of result ≡ stepped_or (settle_asked (meaning sheet.old.catalogue) budget sheet.old.table) }
-    ensures table { sheet.new.table ≡ settle_table (meaning sheet.old.catalogue) budget sheet.old.table }
+    ensures answer { reply_of result ≡ stepped_or (settle_asked (C.meaning sheet.old.catalogue) budget sheet.old.table) }
+    ensures table { sheet.new.table ≡ settle_table (C.meaning sheet.old.catalogue) budget sheet.old.table }
     ensures catalogue { sheet.new.catalogue ≡ sheet.old.catalogue }
 {
     match sheet.settle(budget) {
@@ -71,7 +71,7 @@ fn settle<C: Catalogue>(sheet: &mut Sheet<C>, budget: u32) -> Answer
 
 /// Shows one register.
 fn look<C: Catalogue>(sheet: &Sheet<C>, register: u32) -> Answer
-    ensures { reply_of result ≡ shown_or (show_asked (meaning sheet.now.catalogue) register sheet.now.table) }
+    ensures { reply_of result ≡ shown_or (show_asked (C.meaning sheet.now.catalogue) register sheet.now.table) }
 {
     match show(sheet, register) {
         Ok(shown) => Answer::Shown {
@@ -85,7 +85,7 @@ fn look<C: Catalogue>(sheet: &Sheet<C>, register: u32) -> Answer
 
 /// Asks for a partner.
 fn partner<C: Catalogue>(sheet: &Sheet<C>, place: u32, x: u32, z: u32) -> Answer
-    ensures { reply_of result ≡ paired_or (partner_asked (meaning sheet.now.catalogue) place x z sheet.now.table) }
+    ensures { reply_of result ≡ paired_or (partner_asked (C.meaning sheet.now.catalogue) place x z sheet.now.table) }
 {
     match sheet.partner(place, x, z) {
         Ok(y) => Answer::Partner(y),
@@ -95,8 +95,8 @@ fn partner<C: Catalogue>(sheet: &Sheet<C>, place: u32, x: u32, z: u32) -> Answer
 
 /// Carries out a command.
 fn carry_out<C: Catalogue>(sheet: &mut Sheet<C>, command: Command) -> Answer
-    ensures answer { reply_of result ≡ replied (meaning sheet.old.catalogue) (Some command) sheet.old.table }
-    ensures table { sheet.new.table ≡ table_after (meaning sheet.old.catalogue) (Some command) sheet.old.table }
+    ensures answer { reply_of result ≡ replied (C.meaning sheet.old.catalogue) (Some command) sheet.old.table }
+    ensures table { sheet.new.table ≡ table_after (C.meaning sheet.old.catalogue) (Some command) sheet.old.table }
     ensures catalogue { sheet.new.catalogue ≡ sheet.old.catalogue }
 {
     match command {
@@ -134,8 +134,8 @@ fn carry_out<C: Catalogue>(sheet: &mut Sheet<C>, command: Command) -> Answer
 
 /// Carries out the command that a line stands for, if it stands for one.
 fn respond<C: Catalogue>(sheet: &mut Sheet<C>, command: Option<Command>) -> Answer
-    ensures answer { reply_of result ≡ replied (meaning sheet.old.catalogue) command sheet.old.table }
-    ensures table { sheet.new.table ≡ table_after (meaning sheet.old.catalogue) command sheet.old.table }
+    ensures answer { reply_of result ≡ replied (C.meaning sheet.old.catalogue) command sheet.old.table }
+    ensures table { sheet.new.table ≡ table_after (C.meaning sheet.old.catalogue) command sheet.old.table }
     ensures catalogue { sheet.new.catalogue ≡ sheet.old.catalogue }
 {
     match command {
@@ -147,12 +147,12 @@ fn respond<C: Catalogue>(sheet: &mut Sheet<C>, command: Option<Command>) -> Answ
 /// Carries out the command that a line stands for, and answers it. A sheet that some history of calls led to is then
 /// what that history with this call leads to, and shows what the promise says.
 pub fn answer<C: Catalogue>(sheet: &mut Sheet<C>, line: &[u8]) -> Answer
-    ensures answer { reply_of result ≡ replied (meaning sheet.old.catalogue) (command_of line.now) sheet.old.table }
-    ensures table { sheet.new.table ≡ table_after (meaning sheet.old.catalogue) (command_of line.now) sheet.old.table }
+    ensures answer { reply_of result ≡ replied (C.meaning sheet.old.catalogue) (command_of line.now) sheet.old.table }
+    ensures table { sheet.new.table ≡ table_after (C.meaning sheet.old.catalogue) (command_of line.now) sheet.old.table }
     ensures catalogue { sheet.new.catalogue ≡ sheet.old.catalogue }
-    ensures history { (h : List Call) → sheet.old.table ≡ after (meaning sheet.old.catalogue) h → Leads (meaning sheet.old.catalogue) (calls_of (command_of line.now) ++ h) sheet.new.table }
-    ensures promise { Promise (meaning sheet.old.catalogue) }
-    ensures consequences { Consequences (meaning sheet.old.catalogue) }
+    ensures history { (h : List Call) → sheet.old.table ≡ after (C.meaning sheet.old.catalogue) h → Leads (C.meaning sheet.old.catalogue) (calls_of (command_of line.now) ++ h) sheet.new.table }
+    ensures promise { Promise (C.meaning sheet.old.catalogue) }
+    ensures consequences { Consequences (C.meaning sheet.old.catalogue) }
 {
     respond(sheet, read(line))
 }
@@ -163,7 +163,7 @@ fn answer_all<C: Catalogue>(
     heap: Global,
     script: &[u8],
 ) -> Result<String, AllocError>
-    ensures { IfOk result (λ s. string_bytes s ≡ answers (meaning sheet.old.catalogue) (lines script.now) sheet.old.table) }
+    ensures { IfOk result (λ s. string_bytes s ≡ answers (C.meaning sheet.old.catalogue) (lines script.now) sheet.old.table) }
 {
     let mut out = String::new(heap);
     let mut rest = script;
@@ -183,8 +183,8 @@ pub fn answer_anew<C: Catalogue + Drop>(
     heap: Global,
     script: &[u8],
 ) -> Result<String, AllocError>
-    ensures answers { IfOk result (λ s. string_bytes s ≡ answers (meaning catalogue) (lines script.now) (new_table (meaning catalogue))) }
-    ensures histories { Told (meaning catalogue) }
+    ensures answers { IfOk result (λ s. string_bytes s ≡ answers (C.meaning catalogue) (lines script.now) (new_table (C.meaning catalogue))) }
+    ensures histories { Told (C.meaning catalogue) }
 {
     let mut sheet = Sheet::new(catalogue);
     answer_all(&mut sheet, heap, script)
