@@ -1,5 +1,5 @@
 -- The order of the four roundings of one exact number of units.
-use Rattle.std.specs.Prelude.{ℕ, suc, ◌≤◌, Bool, true, false, ℤ, pos, negsuc, neg_ℤ, ◌≤ℤ◌}
+use Rattle.std.specs.Prelude.{ℕ, suc, ◌≤◌, Bool, true, false, ℤ, pos, negsuc, ◌≤ℤ◌}
 use Rattle.std.proofs.Common.{arith}
 use Rattle.std.specs.Int.Signed.{≤ℤ_refl}
 use Rattle.catalogue.specs.declared.types.Mode.{Mode}

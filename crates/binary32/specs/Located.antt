@@ -1,5 +1,5 @@
 -- A magnitude has one location, and what each rounding makes of it never falls as the magnitude grows.
-use Rattle.std.specs.Prelude.{◌≡◌, ℕ, suc, ◌+◌, ◌-◌, ◌*◌, ◌/◌, ◌^◌, ◌<◌, ◌≤◌, min, ◌⊎◌, ◌==◌, nat_lt, refl}
+use Rattle.std.specs.Prelude.{◌≡◌, ℕ, suc, ◌+◌, ◌-◌, ◌*◌, ◌/◌, ◌^◌, ◌<◌, ◌≤◌, min, ◌==◌, nat_lt, refl}
 use Rattle.std.proofs.Common.{subst, ⊎_elim, arith, pow_pos}
 use Rattle.std.proofs.lemmas.Bool.{cases_lt, eqb-true, eqb-false, ltb-true, ltb-false, cond_both}
 use Rattle.binary32.specs.declared.types.Rest.{Rest}

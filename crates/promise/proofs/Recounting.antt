@@ -14,7 +14,7 @@ use Rattle.sheet.specs.Calls.{limits_read, limit_asked, limit_table, line_table,
 use Rattle.promise.specs.Histories.{Call, limit, enter, strike, settle, look, partner, passes_check, after, limits_got, limits_of, line_at}
 use Rattle.sheet.specs.Places.{has, none}
 use Rattle.promise.specs.Promise.{Ranges}
-use Rattle.sheet.specs.Rules.{no_range, new_table, limited, entered, struck, settled}
+use Rattle.sheet.specs.Rules.{no_range, new_table, entered, struck, settled}
 use Rattle.promise.proofs.Changing.{limited_sound, entered_sound, struck_sound}
 use Rattle.promise.proofs.Indexes.{new_indexed, get_or_same}
 use Rattle.sheet.proofs.PlaceSets.{none_has}

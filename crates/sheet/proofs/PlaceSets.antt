@@ -7,7 +7,7 @@ use lib.Count.{count_trailing_zeros, under}
 use Rattle.std.proofs.lemmas.Nat.{shr-shr}
 use Rattle.std.proofs.lemmas.Bool.{eq-eqb, ne_eqb, eqb-true, eqb-false, cond_both, cond-true, cond-false, cases_Bool}
 use Rattle.sheet.specs.declared.places.Places.{Places}
-use Rattle.sheet.specs.Places.{has, none, with_place, without, union, is_none, lowest}
+use Rattle.sheet.specs.Places.{has, with_place, without, union, is_none, lowest}
 
 -- bit i of a number
 abbrev pub bit : ℕ → ℕ → ℕ

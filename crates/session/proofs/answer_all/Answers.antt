@@ -1,4 +1,4 @@
-use Rattle.std.proofs.Common.{◌≡◌, sym, ap, rules}
+use Rattle.std.proofs.Common.{sym, ap, rules}
 use Rattle.session.proofs.Replies.{answers_more, answers_all}
 use Rattle.session.proofs.answer_all.Goals as goal
 

@@ -1,6 +1,5 @@
 -- `cut` splits a text where its first mark stands (Cuts, Laws).
 use Rattle.std.proofs.Common.{◌∙◌}
-use Rattle.words.specs.Words.{front, back}
 use Rattle.words.proofs.Cuts.{cut_at}
 use Rattle.words.proofs.Laws.{parts}
 use Rattle.words.proofs.cut.Goals as goal

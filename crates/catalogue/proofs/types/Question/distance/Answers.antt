@@ -1,4 +1,4 @@
-use Rattle.std.proofs.Common.{◌≡◌, sym, arith, w32, rules}
+use Rattle.std.proofs.Common.{sym, arith, w32, rules}
 use Rattle.std.proofs.lemmas.Int.{to_z-of_z}
 use Rattle.catalogue.specs.Search.{rises}
 use Rattle.catalogue.proofs.Rising.{stays, fits_on_the_way}

@@ -1,7 +1,6 @@
-use Rattle.std.proofs.Common.{◌≡◌, ◌^◌, ◌<◌, ◌≤◌, not, Some, sym, ap, ◌∙◌, subst, arith, w32, SFits, rules}
+use Rattle.std.proofs.Common.{◌^◌, ◌<◌, not, Some, sym, ap, ◌∙◌, subst, w32, SFits, rules}
 use Rattle.std.proofs.lemmas.Int.{to_z-of_z}
 use Rattle.catalogue.specs.Search.{rises, moved, origin}
-use Rattle.catalogue.specs.Ranges.{extent}
 use Rattle.catalogue.proofs.Rising.{fits_on_the_way}
 use Rattle.catalogue.proofs.Edges.{other_end, origin_fits, edge_some, edge_none, found_within}
 use Rattle.catalogue.proofs.types.Question.edge.Goals as goal
