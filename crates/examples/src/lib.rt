@@ -8,8 +8,10 @@ ghost use Rattle.catalogue.specs.Operations.{readings};
 ghost use Rattle.binary32.specs.Binary32.{binary32 as Arithmetic32};
 ghost use Rattle.counters.specs.Stopping.{stopping};
 
+use binary32::binary32::Binary32;
 use catalogue::interface::Catalogue;
 use catalogue::types::Range;
+use counters::counter::Counter;
 
 /// How many worked examples there are; the contract proves each of them of the definitions.
 pub fn worked_examples() -> u32
@@ -24,8 +26,8 @@ pub fn binary32_readings() -> Range
     ensures { result ≡ readings Arithmetic32 }
 {
     Range {
-        low: <binary32::binary32::Binary32 as Catalogue>::LEAST,
-        high: <binary32::binary32::Binary32 as Catalogue>::GREATEST,
+        low: <Binary32 as Catalogue>::LEAST,
+        high: <Binary32 as Catalogue>::GREATEST,
     }
 }
 
@@ -34,7 +36,7 @@ pub fn counter_readings() -> Range
     ensures { result ≡ readings (stopping 16777215) }
 {
     Range {
-        low: <counters::counter::Counter as Catalogue>::LEAST,
-        high: <counters::counter::Counter as Catalogue>::GREATEST,
+        low: <Counter as Catalogue>::LEAST,
+        high: <Counter as Catalogue>::GREATEST,
     }
 }
