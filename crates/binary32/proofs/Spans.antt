@@ -14,12 +14,15 @@ use Rattle.binary32.specs.Computed.{addend_of, rounded}
 use Rattle.binary32.specs.Binary32.{result_of, binary32}
 use Rattle.binary32.specs.Whole.{value_neg}
 
-module _ (s : Modes) (x y : ℤ) (f : Mode → ℤ) (h : (m : Mode) → f m ≡ result_of Sum m x y) where
-  pub least_is : least_of s f ≡ least_result binary32 Sum s x y
-  least_is = ap (least_of s) (fun_ext h)
+module _ (k j : Kind) (s : Modes) (x y : ℤ) (f : Mode → ℤ) (is : k ≡ j) (h : (m : Mode) → f m ≡ result_of j m x y) where
+  by : (m : Mode) → f m ≡ result_of k m x y
+  by m = h m ∙ sym (ap (λ (i : Kind). result_of i m x y) is)
 
-  pub greatest_is : greatest_of s f ≡ greatest_result binary32 Sum s x y
-  greatest_is = ap (greatest_of s) (fun_ext h)
+  pub least_is : least_of s f ≡ least_result binary32 k s x y
+  least_is = ap (least_of s) (fun_ext by)
+
+  pub greatest_is : greatest_of s f ≡ greatest_result binary32 k s x y
+  greatest_is = ap (greatest_of s) (fun_ext by)
 
 -- a difference is a sum with the second operand negated
 module _ (k j : Kind) (s : Modes) (x y r : ℤ) (is : k ≡ j) (e : r ≡ addend_of k y) (h : (m : Mode) → result_of Sum m x (addend_of j y) ≡ result_of j m x y) where

@@ -1,15 +1,14 @@
--- All that `Binary32::new` carries (specs/Theory), and the laws of the arithmetic and of the catalogue.
+-- What stands of the binary32 arithmetic, and the laws of its catalogue
 use Rattle.std.proofs.Common.{arith, lit<}
 use Rattle.std.specs.Prelude.{ℤ, ◌≤ℤ◌, refl}
 use Rattle.std.proofs.lemmas.Int.{ints, clamps}
 use Rattle.catalogue.specs.declared.types.Kind.{Kind}
 use Rattle.catalogue.specs.declared.types.Kind.TheVariants.{Sum, Difference, Peak}
 use Rattle.catalogue.specs.declared.types.Mode.{Mode}
-use Rattle.catalogue.specs.declared.types.Mode.TheVariants.{Nearest, TowardZero}
 use Rattle.catalogue.specs.Operations.{ArithLaws, InOrder, falls_in_y}
 use Rattle.catalogue.specs.Meanings.{Laws}
 use Rattle.catalogue.proofs.Ranked.{ranked_laws}
-use Rattle.catalogue.proofs.Allowed.{allowed_by, by_allowed}
+use Rattle.catalogue.proofs.Allowed.{AllowedBy, allowed_by, by_allowed}
 use Rattle.catalogue.proofs.Rising.{greatest_x, greatest_y, least_x, least_y}
 use Rattle.catalogue.proofs.Sets.{least_le, greatest_ge, least_reached, greatest_reached}
 use Rattle.binary32.specs.Units.{units}
@@ -20,7 +19,7 @@ use Rattle.binary32.specs.Theory.{Stands, Values, Written, Roundings}
 use Rattle.binary32.specs.Fields.{fields, read_reading, reread, rewritten}
 use Rattle.binary32.specs.Whole.{rounded_mono, value_mono}
 use Rattle.binary32.specs.StandardLemmas.{rounds, rounds_one, value_lt, reading_abs}
-use Rattle.binary32.specs.Between.{none_below_down, none_above_up}
+use Rattle.binary32.specs.Between.{down_nearest, nearest_up, down_zero, zero_up}
 use Rattle.binary32.specs.Signs.{exact}
 
 -- ---- laws
@@ -58,10 +57,10 @@ roundings = record {
   rounds = rounds;
   sole = λ m e r p. rounds_one m e r (rounded m e) p (rounds m e);
   grow = rounded_mono;
-  down_nearest = none_below_down Nearest;
-  nearest_up = none_above_up Nearest;
-  down_zero = none_below_down TowardZero;
-  zero_up = none_above_up TowardZero;
+  down_nearest = down_nearest;
+  nearest_up = nearest_up;
+  down_zero = down_zero;
+  zero_up = zero_up;
   exact = λ m r h. exact m r (reading_abs r h);
 }
 

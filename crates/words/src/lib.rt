@@ -3,7 +3,7 @@
 #![tactic(auto)]
 
 ghost use Rattle.std.specs.Prelude.{◌≡◌, ℕ, ◌^◌, ◌<◌, ◌≤◌, ◌&&◌, ltb, ◌⊎◌, [], ◌∷◌, ◌++◌, length, drop, if◌then◌else◌, Some, None, decimal, ◌==◌, ◌≢◌, nat_lt, slice_index};
-ghost use Rattle.std.specs.List.{AllByRecursion as All};
+ghost use Rattle.std.specs.List.{AllByRecursion};
 ghost use Rattle.words.specs.Lines.{lines};
 ghost use Rattle.words.specs.Numbers.{Inverts, led, number_of, numeral, pattern_of, worth, written};
 ghost use Rattle.words.specs.Words.{back, front};
@@ -27,7 +27,7 @@ pub fn cut(text: &[u8], mark: u8) -> (&[u8], &[u8])
     ensures front { result.0.now ≡ front mark text.now }
     ensures back { result.1.now ≡ back mark text.now }
     ensures whole { result.0.now ++ result.1.now ≡ text.now }
-    ensures clear { All (λ b. b ≢ mark) result.0.now }
+    ensures clear { AllByRecursion (λ b. b ≢ mark) result.0.now }
     ensures stops { 0 < length result.1.now → slice_index result.1.now 0 ≡ mark }
 {
     text.split_at(place(text, mark))
@@ -56,7 +56,7 @@ fn behind_first(text: &[u8]) -> &[u8]
 pub fn line(text: &[u8]) -> (&[u8], &[u8])
     ensures line { result.0.now ≡ front 10 text.now }
     ensures rest { result.1.now ≡ drop 1 (back 10 text.now) }
-    ensures clear { All (λ b. b ≢ 10) result.0.now }
+    ensures clear { AllByRecursion (λ b. b ≢ 10) result.0.now }
     ensures whole { (result.0.now ++ (10 ∷ result.1.now) ≡ text.now) ⊎ ((result.0.now ≡ text.now) × (result.1.now ≡ [])) }
     ensures lines { 0 < length text.now → lines text.now ≡ result.0.now ∷ lines result.1.now }
     ensures shorter { 0 < length text.now → length result.1.now < length text.now }
