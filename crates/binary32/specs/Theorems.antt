@@ -8,7 +8,7 @@ use Rattle.catalogue.specs.declared.types.Mode.{Mode}
 use Rattle.catalogue.specs.Operations.{ArithLaws, InOrder, falls_in_y}
 use Rattle.catalogue.specs.Meanings.{Laws}
 use Rattle.catalogue.proofs.Ranked.{ranked_laws}
-use Rattle.catalogue.proofs.Allowed.{AllowedBy, allowed_by, by_allowed}
+use Rattle.catalogue.proofs.Allowed.{allowed_by, by_allowed}
 use Rattle.catalogue.proofs.Rising.{greatest_x, greatest_y, least_x, least_y}
 use Rattle.catalogue.proofs.Sets.{least_le, greatest_ge, least_reached, greatest_reached}
 use Rattle.binary32.specs.Units.{units}

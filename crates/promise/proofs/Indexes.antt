@@ -1,7 +1,7 @@
 -- No call spoils the index from registers to lines.
-use Rattle.std.proofs.Common.{◌≡◌, ℕ, zero, suc, ◌<◌, Bool, true, false, cond, ◌&&◌, ◌||◌, eqb, ltb, ◌≢◌, ◌⊎◌, List, length, get_or, set, replicate, Some, None, Ok, Err, Option, Result, sym, refl, ap, ◌∙◌, subst, inl, inr, ⊎_elim, arith}
+use Rattle.std.proofs.Common.{◌≡◌, ℕ, zero, suc, ◌<◌, Bool, true, false, ◌&&◌, ◌||◌, eqb, ◌≢◌, List, length, get_or, set, replicate, Some, None, Ok, Err, Option, Result, sym, refl, ap, ◌∙◌, subst, ⊎_elim, arith}
 use Rattle.std.proofs.lemmas.List.{get_or-set_same, get_or-set_other, length-set}
-use Rattle.std.proofs.lemmas.Bool.{cond_both, cases_eq, cases_lt, eq-eqb, ne_eqb, eqb-true, or_left, or_right, or_cases, cases_Bool}
+use Rattle.std.proofs.lemmas.Bool.{cond_both, cases_eq, eq-eqb, ne_eqb}
 use Rattle.catalogue.specs.declared.types.Range.{Range}
 use Rattle.catalogue.specs.declared.types.Triple.{Triple}
 use Rattle.catalogue.specs.Meanings.{Meaning, all_readings}
@@ -11,12 +11,11 @@ use Rattle.sheet.specs.declared.table.Event.{Event}
 use Rattle.sheet.specs.declared.table.Event.TheVariants.{Tightened, Loosened, Entered, Struck, Step}
 use Rattle.sheet.specs.declared.table.State.{State}
 use Rattle.sheet.specs.declared.table.State.TheVariants.{Settled, Open, Void}
-use Rattle.sheet.specs.declared.table.Row.{Row}
 use Rattle.sheet.specs.declared.table.Table.{Table}
 use Rattle.sheet.specs.Lines.{row_of, checked, drawn_of}
 use Rattle.sheet.specs.Places.{has, none, with_place, without, lowest}
 use Rattle.promise.proofs.Index.{names, Indexed}
-use Rattle.sheet.specs.Rules.{no_row, row_at, naming_at, empty, smaller, changed, cut_table, cut, or_void, then, absorbed, narrowed_by, step_line, step_at, step, reacted, named, placed, settled, new_table, table_of, range_at, limits_at, cut_to_limits, at_rest, after_steps, given, with_due, with_limits, limited, limit_event, entered}
+use Rattle.sheet.specs.Rules.{no_row, row_at, naming_at, empty, smaller, changed, cut_table, cut, or_void, then, absorbed, narrowed_by, step_line, step_at, reacted, named, placed, settled, new_table, table_of, range_at, limits_at, at_rest, after_steps, given, with_due, with_limits, limited, limit_event, entered}
 use Rattle.catalogue.specs.Ranges.{meet}
 use Rattle.sheet.proofs.PlaceSets.{with_here, with_other, zero_bit, has_false}
 
