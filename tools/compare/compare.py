@@ -13,7 +13,7 @@ import subprocess
 import sys
 
 ROOT = pathlib.Path(__file__).resolve().parents[2]
-PROGRAM = ROOT / "target" / "bin" / "ranges"
+PROGRAM = ROOT / "crates" / "ranges" / "out" / "ranges"
 MODEL = ROOT / "tools" / "model" / "ranges_model.py"
 sys.path.insert(0, str(MODEL.parent))
 sys.dont_write_bytecode = True

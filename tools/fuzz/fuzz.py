@@ -225,8 +225,8 @@ def main():
     parser.add_argument("--cases", type=int, default=10_000, help="how many scripts (10000)")
     parser.add_argument("--seed", type=int, default=1, help="a script follows from the seed and its number (1)")
     parser.add_argument("--first", type=int, default=0, help="the number of the first script (0)")
-    parser.add_argument("--program", type=pathlib.Path, default=ROOT / "target" / "bin" / "ranges",
-                        help="the program (target/bin/ranges)")
+    parser.add_argument("--program", type=pathlib.Path, default=ROOT / "crates" / "ranges" / "out" / "ranges",
+                        help="the program (crates/ranges/out/ranges)")
     parser.add_argument("--model", type=pathlib.Path,
                         help="a program that answers scripts too, in place of the model in Python")
     parser.add_argument("--steps", type=int,

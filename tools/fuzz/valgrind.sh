@@ -7,7 +7,7 @@
 # the answers are not those of a run without valgrind. It takes some minutes and is no part of the whole test.
 set -eu
 root=$(cd "$(dirname "$0")/../.." && pwd)
-program=${1:-$root/target/bin/ranges}
+program=${1:-$root/crates/ranges/out/ranges}
 if [ ! -x "$program" ]; then echo "there is no $program" >&2; exit 2; fi
 command -v valgrind >/dev/null || { echo "valgrind is wanted" >&2; exit 2; }
 work=$(mktemp -d)

@@ -1,6 +1,5 @@
--- Lemmas shared by the proofs of functions, from the bottom up. Exact values among the readings (Floors, Located); how the code finds them
--- there (Scaled, Apart, Signs); the roundings, their order and the standard (Whole, Standard, Between); patterns (Fields); what stands (Theorems);
--- and the results of a mode set (Spans).
+-- Lemmas shared by the proofs of functions: how the code finds where an exact value lies (Scaled, Apart), and the results of a mode set
+-- (Spans). They stand on those of specs/, which the impls cite too.
 pub mod Scaled
 pub mod Apart
 pub mod Spans

@@ -2,6 +2,8 @@
 -- Then Rounding: the four roundings of the standard, said with readings. Then Binary32: what sums, differences and peaks give, on ranks.
 -- Theory has what is proved of all of these. Computed gives the same roundings in closed form, so that examples can be worked out,
 -- and Locations is how the code gets there: where an exact sum lies among the ranks.
+-- The rest are lemmas, from Floors up to Theorems: nobody has to read them in order to believe. They stand here and not in
+-- proofs/ because the impls of the traits cite them for their laws, and an impl can cite only specs/.
 pub mod Units
 pub mod Patterns
 pub mod Rounding
@@ -9,11 +11,11 @@ pub mod Locations
 pub mod Computed
 pub mod Binary32
 pub mod Theory
-pub mod Theorems
-pub mod Fields
-pub mod Whole
 pub mod Floors
 pub mod Located
+pub mod Whole
 pub mod StandardLemmas
 pub mod Between
 pub mod Signs
+pub mod Fields
+pub mod Theorems
