@@ -1,5 +1,5 @@
 -- What each call of a sheet answers, and the table that it leaves. Refusals go by number.
--- Of a call, `-asked` is what the rules give, or the refusal; `-answer` puts the code's answer in the same terms; `-table` is the table that it leaves.
+-- Of a call, `.._asked` is what the rules give, or the refusal; `.._answer` puts the code's answer in the same terms; `.._table` is the table that it leaves.
 use Rattle.std.specs.Prelude.{◌≡◌, ℕ, ◌≤◌, Bool, true, false, cond, not, ◌||◌, ℤ, Some, None, Ok, Err, Option, Result, ◌==◌, int_lt, nat_lt}
 use Rattle.catalogue.specs.declared.types.Range.{Range}
 use Rattle.catalogue.specs.declared.types.Refusal.{Refusal}

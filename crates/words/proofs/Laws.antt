@@ -2,7 +2,7 @@
 use Rattle.std.proofs.Common.{◌≡◌, ℕ, ◌<◌, ◌≤◌, true, false, cond, eqb, ◌⊎◌, List, [], ◌∷◌, ◌++◌, length, get_or, drop, sym, refl, ap, ◌∙◌, inl, inr, arith}
 use Rattle.std.proofs.lemmas.List.{append-nil, length-drop}
 use Rattle.std.proofs.lemmas.Bool.{eqb-true, eqb-false, cond_both}
-use Rattle.std.specs.List.{AllByRecursion as All}
+use Rattle.std.specs.List.{AllByRecursion}
 use Rattle.words.specs.Words.{front, back, pieces, words, after, onto}
 use Rattle.words.specs.Lines.{lines}
 
@@ -14,7 +14,7 @@ front_back s (b ∷ bs) =
 
 -- no byte of a list is the mark
 abbrev Clear : ℕ → List ℕ → Type 0
-Clear s xs = All (λ b. b ≡ s → ⊥) xs
+Clear s xs = AllByRecursion (λ b. b ≡ s → ⊥) xs
 
 front_clear : (s : ℕ) (xs : List ℕ) → Clear s (front s xs)
 front_clear s [] = tt

@@ -2,7 +2,7 @@
 
 #![tactic(auto)]
 
-ghost use Rattle.std.specs.Prelude.{◌≡◌, ℕ, ◌^◌, ◌<◌, ◌≤◌, ◌&&◌, ltb, ◌⊎◌, [], ◌∷◌, ◌++◌, length, drop, if◌then◌else◌, Some, None, decimal, ◌==◌, ◌≢◌, nat_lt, slice_index};
+ghost use Rattle.std.specs.Prelude.{◌≡◌, ℕ, ◌^◌, ◌<◌, ◌≤◌, ◌&&◌, ◌⊎◌, [], ◌∷◌, ◌++◌, length, drop, if◌then◌else◌, Some, None, decimal, ◌==◌, ◌≢◌, nat_lt, slice_index};
 ghost use Rattle.std.specs.List.{AllByRecursion};
 ghost use Rattle.words.specs.Lines.{lines};
 ghost use Rattle.words.specs.Numbers.{Inverts, led, number_of, numeral, pattern_of, worth, written};
@@ -67,7 +67,7 @@ pub fn line(text: &[u8]) -> (&[u8], &[u8])
 
 /// What a digit below the base is worth.
 fn digit(byte: u8, base: u32) -> Option<u32>
-    ensures { result ≡ (if ltb (worth byte) base then Some (worth byte) else None) }
+    ensures { result ≡ (if nat_lt (worth byte) base then Some (worth byte) else None) }
 {
     let worth = match char::from(byte) {
         '0'..='9' => u32::from(byte - b'0'),
