@@ -121,6 +121,3 @@ pub record Consequences (m : Meaning) : Type 0 where
   pub any_budgets : (h : List Call) (bs cs : List ℕ) → Rests m (settles bs h) → Rests m (settles cs h) → Alike (after m (settles bs h)) (after m (settles cs h))
   -- a line struck and entered again, at any free place, then settled: the sheet shows what it showed
   pub struck_and_entered : (h : List Call) (bs : List ℕ) (n k : ℕ) (l : Line) → line_at h n ≡ Some l → k < 64 → line_at (strike n ∷ h) k ≡ None → Rests m h → Rests m (settles bs (enter k l ∷ (strike n ∷ h))) → Alike (after m h) (after m (settles bs (enter k l ∷ (strike n ∷ h))))
-  -- a line leaves ranges unchanged, as above, exactly if its step by the rules changes none of them
-  pub unchanged_step : (l : Line) (t : Table) → passes_check l ≡ true → ((r : ℕ) → r < 32 → Proper (range_at t r)) → Unchanged m l (range_at t) → narrowed_by m l t ≡ Some t
-  pub step_unchanged : (l : Line) (t u : Table) → passes_check l ≡ true → length t.ranges ≡ 32 → narrowed_by m l t ≡ Some u → ((r : ℕ) → r < 32 → range_at u r ≡ range_at t r) → Unchanged m l (range_at t)
