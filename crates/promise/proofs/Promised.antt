@@ -14,7 +14,6 @@ use Rattle.promise.specs.Promise.{Ranges, Assignment, given_to, Consistent, Insi
 use Rattle.sheet.specs.Lines.{checked, drawn_of}
 use Rattle.sheet.specs.Places.{has}
 use Rattle.sheet.specs.Rules.{range_at, at_rest}
-use Rattle.promise.proofs.Alone.{unchanged_alone, alone_unchanged}
 use Rattle.promise.proofs.Declining.{called_declined}
 use Rattle.promise.proofs.Recounting.{after_sound, entering_off, entering_own, striking_off, striking_own}
 use Rattle.promise.proofs.Remade.{passing, remade}

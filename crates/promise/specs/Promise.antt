@@ -1,5 +1,5 @@
 -- The promise about long use: what a sheet shows after every history of calls.
-use Rattle.std.specs.Prelude.{◌≡◌, ℕ, ◌<◌, Bool, true, false, ◌⊎◌, List, ◌∷◌, ◌++◌, map, length, ℤ, Some, None, Ok, ◌==◌, ◌≢◌}
+use Rattle.std.specs.Prelude.{◌≡◌, ℕ, ◌<◌, Bool, true, false, ◌⊎◌, List, ◌∷◌, ◌++◌, map, ℤ, Some, None, Ok, ◌==◌, ◌≢◌}
 use Rattle.catalogue.specs.declared.types.Range.{Range}
 use Rattle.catalogue.specs.declared.types.Triple.{Triple}
 use Rattle.catalogue.specs.Meanings.{Meaning, Laws, all_readings}
@@ -7,11 +7,11 @@ use Rattle.catalogue.specs.Ranges.{Holds, Within, Proper, meet}
 use Rattle.sheet.specs.declared.lines.Line.{Line}
 use Rattle.sheet.specs.declared.table.State.TheVariants.{Settled, Void}
 use Rattle.sheet.specs.declared.table.Table.{Table}
-use Rattle.promise.specs.Histories.{Call, settle, strike, enter, after, declines, limits_of, line_at, passes_check, HasLine}
+use Rattle.promise.specs.Histories.{Call, settle, strike, enter, after, declines, limits_of, line_at, HasLine}
 use Rattle.sheet.specs.Calls.{no_line}
 use Rattle.sheet.specs.Lines.{checked, drawn_of}
 use Rattle.sheet.specs.Places.{has}
-use Rattle.sheet.specs.Rules.{range_at, row_at, at_rest, narrowed_by}
+use Rattle.sheet.specs.Rules.{range_at, row_at, at_rest}
 
 -- ---- sets of ranges, and assignments
 
