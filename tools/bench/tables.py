@@ -1,4 +1,4 @@
-"""Checks the programs that measure.sh has built in target/bench, measures them and prints the tables."""
+"""Checks the programs that measure.sh has built, measures them and prints the tables."""
 import pathlib
 import re
 import subprocess
@@ -7,9 +7,10 @@ import sys
 import variations
 
 HERE = pathlib.Path(__file__).resolve().parent
-WORK = HERE.parents[1] / "target" / "bench"
-BIN = WORK / "target" / "bin"
-PROGRAMS = {"ranges": BIN / "ranges", "plain": WORK / "byhand-plain", "tuned": WORK / "byhand-tuned"}
+ROOT = HERE.parents[1]
+WORK = ROOT / "target" / "bench"
+PROGRAMS = {"ranges": ROOT / "crates" / "ranges" / "out" / "ranges",
+            "plain": WORK / "byhand-plain", "tuned": WORK / "byhand-tuned"}
 SCRIPTS = {"creep60": (65_535, "steps"), "chain60": (65_535, "steps"), "mixed64": (65_535, "steps"),
            "commands": (5_112, "commands")}
 ROUNDS = 100
@@ -74,7 +75,7 @@ def bench_scripts(start, least):
 
 
 def sums():
-    ours, hardware = calls(BIN / "bench", "sums"), calls(WORK / "hardware")
+    ours, hardware = calls(WORK / "bench", "sums"), calls(WORK / "hardware")
     bare = ours.pop("operands alone")
     rows = [["the operands alone", "%.1f ns" % bare, "", ""]]
     for name, time in {**hardware, **ours}.items():
@@ -85,7 +86,7 @@ def sums():
 
 def narrowings():
     rows = {}
-    for name, time in calls(BIN / "bench", "narrowings").items():
+    for name, time in calls(WORK / "bench", "narrowings").items():
         line, _ = name.rsplit(", ", 1)
         rows.setdefault(line, []).append("%.1f (%.0f ns)" % (1000 / time, time))
     table("Narrowings, million per second:",

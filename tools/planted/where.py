@@ -22,11 +22,11 @@ for line in text.split("\n"):
     if found:
         at.setdefault(f"{found[1]}:{found[2]}", []).append(f"{found[3]} (`{found[4]}`)")
         continue
-    found = re.match(r"proofs/(\S+?)/(Answers|Choices|Proof)\.antt:\d+:\d+: error: (?:`([^`]+)`: )?(.*)", line)
+    found = re.match(r"(?:\./)?proofs/(\S+?)/(Answers|Invariants|Proof)\.antt:\d+:\d+: error: (?:`([^`]+)`: )?(.*)", line)
     if found:
         missing = "that can be named from here" in found[4] or "is not in scope" in found[4]
         add(names if missing else at, f"proofs/{found[1]}", f"`{found[3] or found[2]}`")
-    elif re.match(r"proofs/\S+: error", line):
-        add(at, line.split(":")[0], "a lemma")
+    elif re.match(r"(?:\./)?proofs/\S+: error", line):
+        add(at, line.split(":")[0].removeprefix("./"), "a lemma")
 print("in " + (", ".join(seen) or "no function named") + " | " + "; ".join(f"{where}: {', '.join(needs)}" for where, needs in (at or names).items())
       + ("" if at or not names else " (only a name that the proof uses)"))
