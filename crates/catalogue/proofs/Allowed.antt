@@ -1,5 +1,5 @@
 -- An allowed triple, taken apart: readings, and a mode of the set whose result is z.
-use Rattle.std.proofs.Common.{◌≡◌, Bool, true, ◌&&◌, ◌||◌, ℤ, ⊎_elim, arith}
+use Rattle.std.proofs.Common.{◌≡◌, Bool, true, false, ◌&&◌, ◌||◌, ℤ, ⊎_elim, ap, refl, of_z, w32, arith}
 use lib.Signed.{le_z}
 use Rattle.std.proofs.lemmas.Int.{ints}
 use Rattle.std.proofs.lemmas.Bool.{and_parts, and_from, or_cases, or_left, or_right}
@@ -18,6 +18,14 @@ equal_true v w e = and_from (le_z v w) (le_z w v) (true_le v w (omega (arith, in
 
 pub true_equal : (v w : ℤ) → equal v w ≡ true → v ≡ w
 true_equal v w e = let h = and_parts (le_z v w) (le_z w v) e in let p = le_true v w h.0 in let q = le_true w v h.1 in omega (arith, ints)
+
+-- two numbers that differ as words of 32 bits are not equal
+pub unequal : (v w : ℤ) → (of_z w32 v ≡ of_z w32 w → ⊥) → equal v w ≡ false
+unequal v w n = no_true (equal v w) (λ e. n (ap (of_z w32) (true_equal v w e)))
+  where
+    no_true : (b : Bool) → (b ≡ true → ⊥) → b ≡ false
+    no_true true h = absurd (h refl)
+    no_true false h = refl
 
 pub holds_true : (r : Range) (v : ℤ) → holds r v ≡ true → Holds r v
 holds_true r v e = let h = and_parts (le_z r.low v) (le_z v r.high) e in (le_true _ _ h.0, le_true _ _ h.1)

@@ -94,11 +94,11 @@ module _ (a : Arith) (laws : ArithLaws a) where
 
   passes_up : (q : Question) (v w : ℤ) → rises q ≡ true → v ≤ℤ w → passes a q v ≡ true → passes a q w ≡ true
   unfolding passes
-  passes_up q v w = up q.modes q.other q.bound q.asks q.operand q.kind v w
+  passes_up q v w = up q.operation.modes q.other q.bound q.asks q.operand q.operation.kind v w
 
   passes_down : (q : Question) (v w : ℤ) → rises q ≡ false → v ≤ℤ w → passes a q w ≡ true → passes a q v ≡ true
   unfolding passes
-  passes_down q v w = down q.modes q.other q.bound q.asks q.operand q.kind v w
+  passes_down q v w = down q.operation.modes q.other q.bound q.asks q.operand q.operation.kind v w
 
   pub on : (q : Question) (f : ℤ) (b : Bool) → rises q ≡ b → (j k : ℕ) → j ≤ k → passes a q (moved b f j) ≡ true → passes a q (moved b f k) ≡ true
   on q f true r j k h = passes_up q _ _ r (omega (arith, ints))

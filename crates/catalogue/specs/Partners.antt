@@ -25,7 +25,7 @@ toward_z k = cond (falls_in_y k) AtMost AtLeast
 
 -- the question whose first rank is the lowest y that can make z under one mode
 abbrev pub first_y : Kind → Mode → ℤ → ℤ → Question
-first_y k m x z = record { kind = k; modes = only m; operand = Y; other = x; asks = toward_z k; bound = z }
+first_y k m x z = record { operation = record { kind = k; modes = only m }; operand = Y; other = x; asks = toward_z k; bound = z }
 
 -- the rank found, if its result is z
 abbrev pub if_met : Arith → Kind → Mode → ℤ → ℤ → Option ℤ → Option ℤ

@@ -26,7 +26,7 @@ y_asked Y v other = v
 
 -- the least and the greatest result with such a rank
 abbrev pub asked_span : Arith → Question → ℤ → Span
-asked_span a q v = span_of a q.kind q.modes (x_asked q.operand v q.other) (y_asked q.operand v q.other)
+asked_span a q v = span_of a q.operation.kind q.operation.modes (x_asked q.operand v q.other) (y_asked q.operand v q.other)
 
 -- what is asked of a span: that its greatest result reaches a bound, or that its least does not pass it
 abbrev pub meets : Asks → ℤ → Span → Bool
@@ -49,7 +49,7 @@ rising AtMost b = b
 
 -- whether what passes keeps passing as the rank grows, and not as it falls
 abbrev pub rises : Question → Bool
-rises q = rising q.asks (falls_in q.operand q.kind)
+rises q = rising q.asks (falls_in q.operand q.operation.kind)
 
 -- the rank so many above another, or below it
 abbrev pub moved : Bool → ℤ → ℕ → ℤ
@@ -79,11 +79,11 @@ between (Some l) (Some h) = unless_empty (record { low = l; high = h })
 
 -- the greatest result with `other` reaches z's low
 abbrev pub reaches : Kind → Modes → Operand → ℤ → Range → Question
-reaches k s p other z = record { kind = k; modes = s; operand = p; other = other; asks = AtLeast; bound = z.low }
+reaches k s p other z = record { operation = record { kind = k; modes = s }; operand = p; other = other; asks = AtLeast; bound = z.low }
 
 -- the least result with `other` does not pass z's high
 abbrev pub stays_in : Kind → Modes → Operand → ℤ → Range → Question
-stays_in k s p other z = record { kind = k; modes = s; operand = p; other = other; asks = AtMost; bound = z.high }
+stays_in k s p other z = record { operation = record { kind = k; modes = s }; operand = p; other = other; asks = AtMost; bound = z.high }
 
 -- what an operand keeps of its range
 abbrev pub kept : Arith → Kind → Modes → Operand → Range → ℤ → ℤ → Range → Option Range

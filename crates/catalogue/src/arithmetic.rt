@@ -1,20 +1,40 @@
-ghost use Rattle.std.specs.Prelude.{◌≡◌};
+ghost use Rattle.std.specs.Prelude.{◌≡◌, ℤ};
 ghost use Rattle.catalogue.specs.Operations.{Arith, ArithLaws, readings, span_of};
 
-use crate::types::{Kind, Modes, Range, Span};
+use crate::types::{Operation, Range, Span};
+
+/// The readings of a board: every rank from the least to the greatest.
+pub trait Readings {
+    /// The least reading.
+    const LEAST: i32;
+    /// The greatest reading.
+    const GREATEST: i32;
+
+    ghost LEAST: { ℤ };
+
+    ghost GREATEST: { ℤ };
+}
 
 /// A board's arithmetic on ranks: what the one narrowing text needs of it.
-pub trait Arithmetic {
+pub trait Arithmetic: Readings {
     ghost arith: { Self → Arith };
 
-    /// The readings: every rank from the least to the greatest.
-    fn readings(&self) -> Range
-        ensures { result ≡ readings (arith self.now) };
-
-    /// The least and the greatest result among the modes of a set.
+    /// The least and the greatest result of an operation among the modes of its set.
     /// An operand that is no reading counts as the reading nearest to it.
-    fn span(&self, kind: Kind, modes: Modes, x: i32, y: i32) -> Span
-        ensures { result ≡ span_of (arith self.now) kind modes x y };
+    fn span(&self, operation: Operation, x: i32, y: i32) -> Span
+        ensures { result ≡ span_of (arith self.now) operation.kind operation.modes x y };
+
+    /// The readings, by the constants.
+    final fn readings(&self) -> Range
+        ensures { result ≡ readings (arith self.now) }
+    {
+        Range {
+            low: Self::LEAST,
+            high: Self::GREATEST,
+        }
+    }
+
+    ghost ends: { (c : Self) → readings (arith c) ≡ record { low = Self.LEAST; high = Self.GREATEST } };
 
     ghost laws: { (c : Self) → ArithLaws (arith c) };
 }

@@ -2,20 +2,12 @@ ghost use Rattle.std.specs.Prelude.{◌≡◌};
 ghost use Rattle.catalogue.specs.Meanings.{Meaning, Laws, all_readings, rank_or_2};
 ghost use Rattle.catalogue.specs.Refusals.{numbered};
 
-use crate::types::{Kind, Modes, Range, Refusal, Triple};
+use crate::arithmetic::Readings;
+use crate::types::{Operation, Range, Refusal, Triple};
 
 /// A board's arithmetic as a sheet sees it. Its meaning belongs to the value, and no call alters it.
-pub trait Catalogue {
-    /// The least reading.
-    const LEAST: i32;
-    /// The greatest reading; every rank between is a reading too.
-    const GREATEST: i32;
-
+pub trait Catalogue: Readings {
     ghost meaning: { Self → Meaning };
-
-    /// The range from `LEAST` to `GREATEST`: written from the constants, its contract ties them to the meaning.
-    fn ends(&self) -> Range
-        ensures { result ≡ all_readings (meaning self.now) };
 
     /// The rank of a pattern, or refusal 2 if it is no reading.
     fn rank(&self, pattern: u32) -> Result<i32, Refusal>
@@ -25,13 +17,25 @@ pub trait Catalogue {
     fn pattern(&self, rank: i32) -> u32
         ensures { result ≡ (meaning self.now).writes rank };
 
-    /// The given ranges narrowed by one line, or none.
-    fn narrow(&self, kind: Kind, modes: Modes, given: Triple) -> Option<Triple>
-        ensures { result ≡ (meaning self.now).narrowed kind modes given };
+    /// The given ranges narrowed by one operation, or none.
+    fn narrow(&self, operation: Operation, given: Triple) -> Option<Triple>
+        ensures { result ≡ (meaning self.now).narrowed operation.kind operation.modes given };
 
     /// Some y of a range that makes an allowed triple with x and z, or none if there is none.
-    fn partner(&self, kind: Kind, modes: Modes, x: i32, z: i32, y: Range) -> Option<i32>
-        ensures { result ≡ (meaning self.now).partner kind modes x z y };
+    fn partner(&self, operation: Operation, x: i32, z: i32, y: Range) -> Option<i32>
+        ensures { result ≡ (meaning self.now).partner operation.kind operation.modes x z y };
+
+    /// The range from the least reading to the greatest, by the constants.
+    final fn ends(&self) -> Range
+        ensures { result ≡ all_readings (meaning self.now) }
+    {
+        Range {
+            low: Self::LEAST,
+            high: Self::GREATEST,
+        }
+    }
+
+    ghost ends_named: { (c : Self) → all_readings (meaning c) ≡ record { low = Self.LEAST; high = Self.GREATEST } };
 
     ghost laws: { (c : Self) → Laws (meaning c) };
 }

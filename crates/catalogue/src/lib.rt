@@ -1,9 +1,11 @@
 #![tactic(auto)]
 
 pub mod arithmetic;
+mod constraint;
 pub mod interface;
 pub mod modes;
 pub mod narrowing;
+pub mod non_empty;
 pub mod partners;
 pub mod ranges;
 pub mod refusals;

@@ -1,10 +1,12 @@
-ghost use Rattle.std.specs.Prelude.{◌≡◌, ◌&&◌, IfSome};
-ghost use Rattle.catalogue.specs.Ranges.{Proper, holds};
-ghost use Rattle.catalogue.specs.Operations.{allowed, equal as Equal};
-ghost use Rattle.catalogue.specs.Partners.{SomeOf, or_else, partner_by, partner_in, partnered, toward_z};
+ghost use Rattle.std.specs.Prelude.{◌≡◌, ◌&&◌};
+ghost use Rattle.catalogue.specs.Ranges.{holds};
+ghost use Rattle.catalogue.specs.Operations.{allowed};
+ghost use Rattle.catalogue.specs.Partners.{SomeOf, partner_by, partner_in, partnered, toward_z};
 
 use crate::arithmetic::Arithmetic;
-use crate::types::{Asks, Kind, Mode, Modes, Operand, Question, Range};
+use crate::constraint::Constraint;
+use crate::non_empty::NonEmpty;
+use crate::types::{Asks, Kind, Mode, Modes, Operand, Operation, Question, Range};
 
 impl Kind {
     /// Which side of z results reach as y grows.
@@ -19,12 +21,6 @@ impl Kind {
     }
 }
 
-fn equal(v: i32, w: i32) -> bool
-    ensures { result ≡ Equal v w }
-{
-    v == w
-}
-
 /// Whether two ranks lie in a range.
 fn both_in(range: Range, x: i32, z: i32) -> bool
     ensures { result ≡ (holds range x && holds range z) }
@@ -32,92 +28,72 @@ fn both_in(range: Range, x: i32, z: i32) -> bool
     range.holds(x) && range.holds(z)
 }
 
-/// The first rank, if there is one, else the second.
-fn or_else(first: Option<i32>, second: Option<i32>) -> Option<i32>
-    ensures { result ≡ or_else first second }
-{
-    match first {
-        Some(v) => Some(v),
-        None => second,
+impl<A: Arithmetic> Constraint<'_, A> {
+    /// The first y of a range whose result under one mode is z, if the set has that mode.
+    fn partner_by(&self, x: i32, z: i32, y: NonEmpty, mode: Mode) -> Option<i32>
+        ensures { result ≡ partner_by (A.arith self.now.arithmetic.now) self.now.operation.kind self.now.operation.modes x z y mode }
+    {
+        if !self.operation.modes.has(mode) {
+            return None;
+        }
+        let operation = Operation {
+            kind: self.operation.kind,
+            modes: Modes::only(mode),
+        };
+        let toward = Question {
+            operation,
+            operand: Operand::Y,
+            other: x,
+            asks: operation.kind.toward_z(),
+            bound: z,
+        };
+        let v = toward.edge(self.arithmetic, y)?;
+        if self.arithmetic.span(operation, x, v).least == z {
+            Some(v)
+        } else {
+            None
+        }
     }
-}
 
-/// The first y of a range whose result under one mode is z, if the set has that mode.
-fn partner_by<A: Arithmetic>(
-    a: &A,
-    kind: Kind,
-    modes: Modes,
-    x: i32,
-    z: i32,
-    y: Range,
-    mode: Mode,
-) -> Option<i32>
-    requires { Proper y }
-    ensures { result ≡ partner_by (A.arith a.now) kind modes x z y mode }
-{
-    if !modes.has(mode) {
-        return None;
+    /// A partner in a range of readings: the first that is found, mode by mode.
+    fn partner_in(&self, x: i32, z: i32, y: Option<NonEmpty>) -> Option<i32>
+        ensures { result ≡ partner_in (A.arith self.now.arithmetic.now) self.now.operation.kind self.now.operation.modes x z y }
+    {
+        let y = y?;
+        let nearest = self.partner_by(x, z, y, Mode::Nearest);
+        let up = self.partner_by(x, z, y, Mode::Up);
+        let down = self.partner_by(x, z, y, Mode::Down);
+        let toward_zero = self.partner_by(x, z, y, Mode::TowardZero);
+        nearest.or(up).or(down).or(toward_zero)
     }
-    let only = Modes::only(mode);
-    let toward = Question {
-        kind,
-        modes: only,
-        operand: Operand::Y,
-        other: x,
-        asks: kind.toward_z(),
-        bound: z,
-    };
-    let v = toward.edge(a, y)?;
-    if equal(a.span(kind, only, x, v).least, z) {
-        Some(v)
-    } else {
-        None
-    }
-}
 
-/// A partner in a range of readings, mode by mode.
-fn partner_in<A: Arithmetic>(
-    a: &A,
-    kind: Kind,
-    modes: Modes,
-    x: i32,
-    z: i32,
-    y: Option<Range>,
-) -> Option<i32>
-    requires { IfSome y Proper }
-    ensures { result ≡ partner_in (A.arith a.now) kind modes x z y }
-{
-    let y = y?;
-    let nearest = partner_by(a, kind, modes, x, z, y, Mode::Nearest);
-    let up = partner_by(a, kind, modes, x, z, y, Mode::Up);
-    let down = partner_by(a, kind, modes, x, z, y, Mode::Down);
-    let toward_zero = partner_by(a, kind, modes, x, z, y, Mode::TowardZero);
-    or_else(nearest, or_else(up, or_else(down, toward_zero)))
-}
-
-/// A partner in any range, of readings x and z.
-fn find<A: Arithmetic>(a: &A, kind: Kind, modes: Modes, x: i32, z: i32, y: Range) -> Option<i32>
-    ensures { result ≡ partnered (A.arith a.now) kind modes x z y }
-{
-    let readings = a.readings();
-    if both_in(readings, x, z) {
-        partner_in(a, kind, modes, x, z, readings.meet(y).unless_empty())
-    } else {
-        None
+    /// A partner in any range; only readings x and z have one.
+    fn partner(&self, x: i32, z: i32, y: Range) -> Option<i32>
+        ensures { result ≡ partnered (A.arith self.now.arithmetic.now) self.now.operation.kind self.now.operation.modes x z y }
+    {
+        let readings = self.arithmetic.readings();
+        if both_in(readings, x, z) {
+            self.partner_in(x, z, readings.meet(y).unless_empty())
+        } else {
+            None
+        }
     }
 }
 
 /// Some y of a range that makes an allowed triple with x and z, or none if there is none.
 pub fn partner<A: Arithmetic>(
-    a: &A,
-    kind: Kind,
-    modes: Modes,
+    arithmetic: &A,
+    operation: Operation,
     x: i32,
     z: i32,
     y: Range,
 ) -> Option<i32>
-    ensures value { result ≡ partnered (A.arith a.now) kind modes x z y }
-    ensures words { SomeOf y (λ v. allowed (A.arith a.now) kind modes x v z) result }
+    ensures value { result ≡ partnered (A.arith arithmetic.now) operation.kind operation.modes x z y }
+    ensures words { SomeOf y (λ v. allowed (A.arith arithmetic.now) operation.kind operation.modes x v z) result }
 {
-    find(a, kind, modes, x, z, y)
+    Constraint {
+        arithmetic,
+        operation,
+    }
+    .partner(x, z, y)
 }

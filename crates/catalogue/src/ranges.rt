@@ -1,7 +1,9 @@
-ghost use Rattle.std.specs.Prelude.{◌≡◌, IfSome};
-ghost use Rattle.catalogue.specs.Ranges.{Proper, all_three, extent, holds, meet, unless_empty};
+ghost use Rattle.std.specs.Prelude.{◌≡◌};
+ghost use Rattle.catalogue.specs.Ranges.{holds, meet, unless_empty};
+ghost use Rattle.catalogue.specs.Whole.{holds_all};
 
-use crate::types::{Range, Triple};
+use crate::non_empty::NonEmpty;
+use crate::types::Range;
 
 impl Range {
     /// Whether a rank lies in the range.
@@ -11,13 +13,19 @@ impl Range {
         self.low <= rank && rank <= self.high
     }
 
+    /// Whether the range holds both ends of another.
+    pub(crate) fn holds_all(self, other: Range) -> bool
+        ensures { result ≡ holds_all self other }
+    {
+        self.low <= other.low && other.high <= self.high
+    }
+
     /// The range, unless it is empty.
-    pub fn unless_empty(self) -> Option<Range>
-        ensures value { result ≡ unless_empty self }
-        ensures proper { IfSome result Proper }
+    pub fn unless_empty(self) -> Option<NonEmpty>
+        ensures { result ≡ unless_empty self }
     {
         if self.low <= self.high {
-            Some(self)
+            Some(NonEmpty { bounds: self })
         } else {
             None
         }
@@ -32,23 +40,4 @@ impl Range {
             high: self.high.min(other.high),
         }
     }
-
-    /// High less low.
-    pub(crate) fn extent(self) -> u32
-        requires { Proper self }
-        ensures { result ≡ extent self }
-    {
-        (self.high as i64 - self.low as i64) as u32
-    }
-}
-
-/// Three ranges, unless one is missing.
-pub(crate) fn all_three(x: Option<Range>, y: Option<Range>, z: Option<Range>) -> Option<Triple>
-    ensures { result ≡ all_three x y z }
-{
-    Some(Triple {
-        x: x?,
-        y: y?,
-        z: z?,
-    })
 }

@@ -1,10 +1,10 @@
 ghost use Rattle.std.specs.Prelude.{◌≡◌, FitsSigned};
 ghost use Rattle.std.specs.Int.{w32};
 ghost use Rattle.catalogue.specs.First.{first as First};
-ghost use Rattle.catalogue.specs.Ranges.{Proper};
 ghost use Rattle.catalogue.specs.Search.{asked_span, edge as Edge, moved as Moved, origin as Origin, passes as Passes, rises as Rises};
 
 use crate::arithmetic::Arithmetic;
+use crate::non_empty::NonEmpty;
 use crate::types::{Asks, Operand, Question, Range, Span};
 
 /// The rank `k` above another, or below it.
@@ -32,8 +32,8 @@ impl Question {
         ensures { result ≡ asked_span (A.arith a.now) self rank }
     {
         match self.operand {
-            Operand::X => a.span(self.kind, self.modes, rank, self.other),
-            Operand::Y => a.span(self.kind, self.modes, self.other, rank),
+            Operand::X => a.span(self.operation, rank, self.other),
+            Operand::Y => a.span(self.operation, self.other, rank),
         }
     }
 
@@ -54,7 +54,7 @@ impl Question {
     {
         let falls = match self.operand {
             Operand::X => false,
-            Operand::Y => self.kind.falls_in_y(),
+            Operand::Y => self.operation.kind.falls_in_y(),
         };
         match self.asks {
             Asks::AtLeast => !falls,
@@ -98,14 +98,11 @@ impl Question {
     }
 
     /// The end of what passes in a range.
-    pub(crate) fn edge<A: Arithmetic>(self, a: &A, range: Range) -> Option<i32>
-        requires { Proper range }
+    pub(crate) fn edge<A: Arithmetic>(self, a: &A, range: NonEmpty) -> Option<i32>
         ensures { result ≡ Edge (A.arith a.now) self range }
     {
-        let from = origin(self.rises(), range);
-        match self.distance(a, from, range.extent()) {
-            Some(k) => Some(moved(self.rises(), from, k)),
-            None => None,
-        }
+        let from = origin(self.rises(), range.range());
+        let k = self.distance(a, from, range.extent())?;
+        Some(moved(self.rises(), from, k))
     }
 }

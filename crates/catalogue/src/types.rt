@@ -1,5 +1,5 @@
 /// The kinds of operation that a line can have.
-#[derive(Clone, Copy)]
+#[derive(Clone, Copy, Debug, PartialEq, Eq)]
 pub enum Kind {
     Sum,
     Difference,
@@ -7,7 +7,7 @@ pub enum Kind {
 }
 
 /// The rounding modes.
-#[derive(Clone, Copy)]
+#[derive(Clone, Copy, Debug, PartialEq, Eq)]
 pub enum Mode {
     Nearest,
     Up,
@@ -16,20 +16,27 @@ pub enum Mode {
 }
 
 /// A set of rounding modes: a sum of 1 (nearest), 2 (up), 4 (down) and 8 (toward zero).
-#[derive(Clone, Copy)]
+#[derive(Clone, Copy, Debug, PartialEq, Eq)]
 pub struct Modes {
     pub bits: u8,
 }
 
+/// An operation: its kind, and the set of modes under which its results may be rounded.
+#[derive(Clone, Copy, Debug, PartialEq, Eq)]
+pub struct Operation {
+    pub kind: Kind,
+    pub modes: Modes,
+}
+
 /// The ranks from `low` to `high`, both included.
-#[derive(Clone, Copy)]
+#[derive(Clone, Copy, Debug, PartialEq, Eq)]
 pub struct Range {
     pub low: i32,
     pub high: i32,
 }
 
 /// The ranges of a line's three registers.
-#[derive(Clone, Copy)]
+#[derive(Clone, Copy, Debug, PartialEq, Eq)]
 pub struct Triple {
     pub x: Range,
     pub y: Range,
@@ -37,31 +44,30 @@ pub struct Triple {
 }
 
 /// The least and the greatest result of an operation among the modes of a set.
-#[derive(Clone, Copy)]
+#[derive(Clone, Copy, Debug, PartialEq, Eq)]
 pub struct Span {
     pub least: i32,
     pub greatest: i32,
 }
 
 /// One of an operation's two operands.
-#[derive(Clone, Copy)]
+#[derive(Clone, Copy, Debug, PartialEq, Eq)]
 pub enum Operand {
     X,
     Y,
 }
 
 /// What is asked of a result: that the greatest one reaches a bound, or that the least one does not pass it.
-#[derive(Clone, Copy)]
+#[derive(Clone, Copy, Debug, PartialEq, Eq)]
 pub enum Asks {
     AtLeast,
     AtMost,
 }
 
 /// A question about one operand while the other is held at `other`.
-#[derive(Clone, Copy)]
+#[derive(Clone, Copy, Debug, PartialEq, Eq)]
 pub struct Question {
-    pub kind: Kind,
-    pub modes: Modes,
+    pub operation: Operation,
     pub operand: Operand,
     pub other: i32,
     pub asks: Asks,
@@ -69,7 +75,7 @@ pub struct Question {
 }
 
 /// Why a call is declined.
-#[derive(Clone, Copy)]
+#[derive(Clone, Copy, Debug, PartialEq, Eq)]
 pub enum Refusal {
     NoSuchRegister,
     NotAReading,

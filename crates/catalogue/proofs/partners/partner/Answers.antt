@@ -4,13 +4,13 @@ use Rattle.catalogue.specs.Partners.{SomeOf, partnered}
 use Rattle.catalogue.proofs.Found.{partnered_is}
 use Rattle.catalogue.proofs.partners.partner.Goals as goal
 
-pub returns : goal.returns
-returns g c =
-    let a = g.A.Arithmetic.arith c.args.a.now in
-    let k = c.args.kind in
-    let s = c.args.modes in
+pub returns-clause-words : goal.returns-clause-words
+returns-clause-words g c =
+    let a = g.A.Arithmetic.arith c.args.arithmetic.now in
+    let k = c.args.operation.kind in
+    let s = c.args.operation.modes in
     let x = c.args.x in
     let z = c.args.z in
     let y = c.args.y in
-    let v : c.find.result ≡ partnered a k s x z y = search rules in
-    record { value = v; words = subst (SomeOf y (λ u. allowed a k s x u z)) (sym v) (partnered_is a (g.met.A.Arithmetic.laws c.args.a.now) k s x z y) }
+    let v : c.partner.result ≡ partnered a k s x z y = search rules in
+    subst (SomeOf y (λ u. allowed a k s x u z)) (sym v) (partnered_is a (g.met.A.Arithmetic.laws c.args.arithmetic.now) k s x z y)

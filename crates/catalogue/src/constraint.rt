@@ -1,0 +1,9 @@
+use crate::arithmetic::Arithmetic;
+use crate::types::{Operation, Span};
+
+/// An operation of a board's arithmetic, which ties x and y to z.
+#[derive(Drop)]
+pub(crate) struct Constraint<'a, A: Arithmetic> {
+    pub(crate) arithmetic: &'a A,
+    pub(crate) operation: Operation,
+}

@@ -1,0 +1,52 @@
+ghost use Rattle.std.specs.Prelude.{◌≡◌};
+ghost use Rattle.catalogue.specs.Ranges.{Proper, extent};
+
+use crate::types::Range;
+use std::marker::Model;
+
+/// A range that has a rank: its low is not above its high. Clauses see the range itself.
+#[derive(Clone, Copy)]
+pub struct NonEmpty {
+    pub(crate) bounds: Range,
+}
+
+impl Model for NonEmpty {
+    ghost use Rattle.catalogue.specs.Ranges.{Proper};
+    ghost use Rattle.catalogue.specs.declared.types.Range.{Range};
+
+    ghost Value = { Range };
+
+    ghost view = { λ n. n.bounds };
+
+    ghost invariant = { λ n. Proper n.bounds };
+
+    ghost inverse = { λ r. record { bounds = r } };
+}
+
+impl NonEmpty {
+    pub fn range(self) -> Range
+        ensures value { result ≡ self }
+        ensures proper { Proper result }
+    {
+        self.bounds
+    }
+
+    pub fn low(self) -> i32
+        ensures { result ≡ self.low }
+    {
+        self.range().low
+    }
+
+    pub fn high(self) -> i32
+        ensures { result ≡ self.high }
+    {
+        self.range().high
+    }
+
+    /// High less low.
+    pub(crate) fn extent(self) -> u32
+        ensures { result ≡ extent self }
+    {
+        self.high().abs_diff(self.low())
+    }
+}
