@@ -1,8 +1,9 @@
 -- An allowed triple, taken apart: readings, and a mode of the set whose result is z.
-use Rattle.std.proofs.Common.{◌≡◌, Bool, true, false, ◌&&◌, ◌||◌, ℤ, ⊎_elim, ap, refl, of_z, w32, arith}
+use Rattle.std.proofs.Common.{◌≡◌, Bool, true, false, ◌&&◌, ◌||◌, ℤ, ⊎_elim, sym, ap, ◌∙◌, refl, FitsSigned, of_z, to_z, w32, arith}
+use Rattle.std.specs.Prelude.{◌==◌}
 use lib.Signed.{le_z}
-use Rattle.std.proofs.lemmas.Int.{ints}
-use Rattle.std.proofs.lemmas.Bool.{and_parts, and_from, or_cases, or_left, or_right}
+use Rattle.std.proofs.lemmas.Int.{ints, to_z-of_z}
+use Rattle.std.proofs.lemmas.Bool.{eqb-true, eq-eqb, and_parts, and_from, or_cases, or_left, or_right}
 use Rattle.catalogue.specs.declared.types.Kind.{Kind}
 use Rattle.catalogue.specs.declared.types.Mode.{Mode}
 use Rattle.catalogue.specs.declared.types.Mode.TheVariants.{Nearest, Up, Down, TowardZero}
@@ -19,13 +20,17 @@ equal_true v w e = and_from (le_z v w) (le_z w v) (true_le v w (omega (arith, in
 pub true_equal : (v w : ℤ) → equal v w ≡ true → v ≡ w
 true_equal v w e = let h = and_parts (le_z v w) (le_z w v) e in let p = le_true v w h.0 in let q = le_true w v h.1 in omega (arith, ints)
 
--- two numbers that differ as words of 32 bits are not equal
-pub unequal : (v w : ℤ) → (of_z w32 v ≡ of_z w32 w → ⊥) → equal v w ≡ false
-unequal v w n = no_true (equal v w) (λ e. n (ap (of_z w32) (true_equal v w e)))
+-- two numbers are equal exactly if they are so as words of 32 bits
+pub equal_words : (v w : ℤ) → FitsSigned w32 v → FitsSigned w32 w → (of_z w32 v == of_z w32 w) ≡ equal v w
+equal_words v w fv fw = same _ _
+    (λ e. equal_true v w (sym (to_z-of_z w32 v fv) ∙ ap (to_z w32) (eqb-true _ _ e) ∙ to_z-of_z w32 w fw))
+    (λ e. eq-eqb _ _ (ap (of_z w32) (true_equal v w e)))
   where
-    no_true : (b : Bool) → (b ≡ true → ⊥) → b ≡ false
-    no_true true h = absurd (h refl)
-    no_true false h = refl
+    same : (a b : Bool) → (a ≡ true → b ≡ true) → (b ≡ true → a ≡ true) → a ≡ b
+    same true true f g = refl
+    same true false f g = sym (f refl)
+    same false true f g = g refl
+    same false false f g = refl
 
 pub holds_true : (r : Range) (v : ℤ) → holds r v ≡ true → Holds r v
 holds_true r v e = let h = and_parts (le_z r.low v) (le_z v r.high) e in (le_true _ _ h.0, le_true _ _ h.1)

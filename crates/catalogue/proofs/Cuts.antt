@@ -1,16 +1,10 @@
 -- Ranges cut to the readings hold readings only, and narrowing goes on from them.
-use Rattle.std.proofs.Common.{◌≡◌, Some, None, Option, sym, ap, ◌∙◌, subst, arith}
-use lib.Signed.{le_z}
+use Rattle.std.proofs.Common.{arith}
 use Rattle.std.proofs.lemmas.Int.{ints, clamps}
-use Rattle.std.proofs.lemmas.Bool.{cond_both}
-use Rattle.catalogue.specs.declared.types.Kind.{Kind}
-use Rattle.catalogue.specs.declared.types.Modes.{Modes}
 use Rattle.catalogue.specs.declared.types.Range.{Range}
 use Rattle.catalogue.specs.declared.types.Triple.{Triple}
-use Rattle.catalogue.specs.Ranges.{Proper, unless_empty, meet, all_three}
+use Rattle.catalogue.specs.Ranges.{Proper, meet}
 use Rattle.catalogue.specs.Operations.{Arith, Reading, readings}
-use Rattle.catalogue.specs.Search.{cut, narrowed, narrowed_cut, narrowed_readings}
-use Rattle.catalogue.proofs.Rising.{le_true}
 
 -- a range of readings that is not empty
 abbrev pub Sound : Arith → Range → Type 0

@@ -3,6 +3,7 @@ use Rattle.std.proofs.Common.{◌≡◌, Bool, true, ◌&&◌, ◌⊎◌, ℤ, �
 use lib.Signed.{le_z}
 use Rattle.std.proofs.lemmas.Int.{ints, clamps}
 use Rattle.std.proofs.lemmas.Bool.{both_ways, cond_both, and_parts, and_from}
+use Rattle.std.specs.Option.{option_or}
 use Rattle.catalogue.specs.declared.types.Kind.{Kind}
 use Rattle.catalogue.specs.declared.types.Kind.TheVariants.{Sum, Difference, Peak}
 use Rattle.catalogue.specs.declared.types.Mode.{Mode}
@@ -13,19 +14,19 @@ use Rattle.catalogue.specs.Modes.{has_mode, only}
 use Rattle.catalogue.specs.Ranges.{Holds, holds, meet, unless_empty}
 use Rattle.catalogue.specs.Operations.{Arith, ArithLaws, Reading, readings, nearest_reading, span_of, equal, allowed}
 use Rattle.catalogue.specs.Search.{passes, rises, edge}
-use Rattle.catalogue.specs.Partners.{SomeOf, first_y, if_met, partner_by, or_else, partner_in, partnered}
+use Rattle.catalogue.specs.Partners.{SomeOf, first_y, if_met, partner_by, partner_in, partnered}
 use Rattle.catalogue.proofs.Sets.{only_least, only_greatest}
 use Rattle.catalogue.proofs.Rising.{le_true, true_le, nearest_self}
 use Rattle.catalogue.proofs.Allowed.{allowed_by, by_allowed, equal_true, true_equal, holds_true}
 use Rattle.catalogue.proofs.Cuts.{Sound, cut_sound_of}
-use Rattle.catalogue.proofs.Words.{Edge, edge_is}
+use Rattle.catalogue.proofs.Words.{Edge, edge_is, within_reads}
 
 -- some rank of a range with a property, or none exactly if there is none
 abbrev FoundIn : Range → (ℤ → Type 0) → Option ℤ → Type 0
 FoundIn r P None = (v : ℤ) → Holds r v → P v → ⊥
 FoundIn r P (Some v) = Holds r v × P v
 
-or_else_is : (r : Range) (P Q : ℤ → Type 0) (o u : Option ℤ) → FoundIn r P o → FoundIn r Q u → FoundIn r (λ v. P v ⊎ Q v) (or_else o u)
+or_else_is : (r : Range) (P Q : ℤ → Type 0) (o u : Option ℤ) → FoundIn r P o → FoundIn r Q u → FoundIn r (λ v. P v ⊎ Q v) (option_or o u)
 or_else_is r P Q None None a b = λ v k. ⊎_elim (a v k) (b v k)
 or_else_is r P Q None (Some w) a b = (b.0, inr b.1)
 or_else_is r P Q (Some v) u a b = (a.0, inl a.1)
@@ -63,16 +64,13 @@ module _ (a : Arith) (laws : ArithLaws a) (m : Mode) (x z : ℤ) (rx : Reading a
     abbrev Meets : ℤ → Type 0
     Meets v = z ≡ a.result k m x v
 
-    reads : (v : ℤ) → Holds y v → Reading a v
-    reads v h = (omega (arith, ints, so.0.0, h.0), omega (arith, ints, so.1.1, h.1))
-
     if_met_is : (o : Option ℤ) → Edge true y (passes a (first_y k m x z)) o → FoundIn y Meets (if_met a k m x z o)
-    if_met_is None h = λ v i e. both_ways (passes a (first_y k m x z) v) (h v i) (met k v (reads v i) e)
+    if_met_is None h = λ v i e. both_ways (passes a (first_y k m x z) v) (h v i) (met k v (within_reads a y v so i) e)
     if_met_is (Some e) h =
-        let here = least_at k e (reads e h.0) in
+        let here = least_at k e (within_reads a y e so h.0) in
         cond_both (equal (span_of a k (only m) x e).least z) (Some e) None (FoundIn y Meets)
         (λ t. (h.0, sym (true_equal _ _ t) ∙ here))
-        (λ t v i q. let s = first_met k e v (reads e h.0) (h.2 v i (met k v (reads v i) q)) (h.1 e h.0 (omega (arith, ints))) q in
+        (λ t v i q. let s = first_met k e v (within_reads a y e so h.0) (h.2 v i (met k v (within_reads a y v so i) q)) (h.1 e h.0 (omega (arith, ints))) q in
         both_ways (equal (span_of a k (only m) x e).least z) t (equal_true _ _ (here ∙ s)))
 
     abbrev By : Modes → ℤ → Type 0

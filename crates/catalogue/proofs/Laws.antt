@@ -11,13 +11,10 @@ use Rattle.catalogue.specs.Ranges.{Holds, Holds3, HoldsO, Within, Within3, Withi
 use Rattle.catalogue.specs.Operations.{Arith, ArithLaws, Reading, readings, least_result, greatest_result, allowed}
 use Rattle.catalogue.specs.Narrowing.{y_for_least, y_for_greatest, cut_to_readings, KeepsX, KeepsY, KeepsZ, Exactly, NarrowsReadings, Narrows, Narrowing}
 use Rattle.catalogue.specs.Search.{narrowed}
-use Rattle.catalogue.proofs.Sets.{least_le, greatest_ge}
+use Rattle.catalogue.proofs.Sets.{le_then, least_le, greatest_ge}
 use Rattle.catalogue.proofs.Rising.{least_x, greatest_x, least_y, greatest_y}
 use Rattle.catalogue.proofs.Words.{narrowed_is}
 use Rattle.catalogue.proofs.Allowed.{AllowedBy, allowed_by}
-
-trans : (a b c : ℤ) → a ≤ℤ b → b ≤ℤ c → a ≤ℤ c
-trans a b c p q = omega (arith, ints)
 
 -- the low and the high rank of what is kept are kept
 inside_of : (P : ℤ → Type 0) (r w : Range) → Exactly P r → ((v : ℤ) → P v → Holds w v) → Within r w
@@ -33,7 +30,7 @@ cut_within : (a : Arith) (r w : Range) → Within r w → Within (meet (readings
 cut_within a r w h = (omega (arith, ints, clamps, h.0), omega (arith, ints, clamps, h.1))
 
 within_holds : (r w : Range) (v : ℤ) → Within r w → Holds r v → Holds w v
-within_holds r w v h k = (trans _ _ _ h.0 k.0, trans _ _ _ k.1 h.1)
+within_holds r w v h k = (le_then h.0 k.0, le_then k.1 h.1)
 
 module _ (a : Arith) (laws : ArithLaws a) where
   y_greatest_in : (k : Kind) (s : Modes) (x v : ℤ) (y : Range) → Holds y v → greatest_result a k s x v ≤ℤ greatest_result a k s x (y_for_greatest k y)
@@ -120,16 +117,16 @@ module _ (a : Arith) (laws : ArithLaws a) where
       over = subst (λ v. v ≤ℤ greatest_result a k s x y) (sym w.is) (greatest_ge s (λ m. a.result k m x y) w.mode w.among)
 
       keeps_x : KeepsX a k s c x
-      keeps_x = (hx, trans _ _ _ hz.0 (trans _ _ _ over (y_greatest_in k s x y c.y hy)), trans _ _ _ (trans _ _ _ (y_least_in k s x y c.y hy) under) hz.1)
+      keeps_x = (hx, le_then hz.0 (le_then over (y_greatest_in k s x y c.y hy)), le_then (le_then (y_least_in k s x y c.y hy) under) hz.1)
 
       keeps_y : KeepsY a k s c y
-      keeps_y = (hy, trans _ _ _ hz.0 (trans _ _ _ over (greatest_x a laws k s x c.x.high y hx.1)), trans _ _ _ (trans _ _ _ (least_x a laws k s c.x.low x y hx.0) under) hz.1)
+      keeps_y = (hy, le_then hz.0 (le_then over (greatest_x a laws k s x c.x.high y hx.1)), le_then (le_then (least_x a laws k s c.x.low x y hx.0) under) hz.1)
 
       keeps_z : KeepsZ a k s c z
       keeps_z = (
         hz,
-        trans _ _ _ (trans _ _ _ (least_x a laws k s c.x.low x (y_for_least k c.y) hx.0) (y_least_in k s x y c.y hy)) under,
-        trans _ _ _ over (trans _ _ _ (y_greatest_in k s x y c.y hy) (greatest_x a laws k s x c.x.high (y_for_greatest k c.y) hx.1)),
+        le_then (le_then (least_x a laws k s c.x.low x (y_for_least k c.y) hx.0) (y_least_in k s x y c.y hy)) under,
+        le_then over (le_then (y_greatest_in k s x y c.y hy) (greatest_x a laws k s x c.x.high (y_for_greatest k c.y) hx.1)),
       )
 
       kept : (r : Option Triple) → Narrows a k s t r → HoldsO r x y z

@@ -1,5 +1,6 @@
 -- A partner: some y of a range that makes an allowed triple with x and z.
 use Rattle.std.specs.Prelude.{◌≡◌, Bool, true, cond, ◌&&◌, ℤ, Some, None, Option, ◌≢◌}
+use Rattle.std.specs.Option.{option_or}
 use Rattle.catalogue.specs.declared.types.Kind.{Kind}
 use Rattle.catalogue.specs.declared.types.Mode.{Mode}
 use Rattle.catalogue.specs.declared.types.Mode.TheVariants.{Nearest, Up, Down, TowardZero}
@@ -36,17 +37,12 @@ if_met a k m x z (Some v) = cond (equal (span_of a k (only m) x v).least z) (Som
 abbrev pub partner_by : Arith → Kind → Modes → ℤ → ℤ → Range → Mode → Option ℤ
 partner_by a k s x z y m = cond (has_mode s m) (if_met a k m x z (edge a (first_y k m x z) y)) None
 
--- the first answer, or the second where that is none
-abbrev pub or_else : Option ℤ → Option ℤ → Option ℤ
-or_else None o = o
-or_else (Some v) o = Some v
-
 -- in a range of readings: the first that is found, in the order nearest, up, down, toward zero
 abbrev pub partner_in : Arith → Kind → Modes → ℤ → ℤ → Option Range → Option ℤ
 partner_in a k s x z None = None
 partner_in a k s x z (Some y) =
-    or_else (partner_by a k s x z y Nearest)
-    (or_else (partner_by a k s x z y Up) (or_else (partner_by a k s x z y Down) (partner_by a k s x z y TowardZero)))
+    option_or (partner_by a k s x z y Nearest)
+    (option_or (partner_by a k s x z y Up) (option_or (partner_by a k s x z y Down) (partner_by a k s x z y TowardZero)))
 
 -- for readings x and z, and any range; no other x and z have a partner
 abbrev pub partnered : Arith → Kind → Modes → ℤ → ℤ → Range → Option ℤ

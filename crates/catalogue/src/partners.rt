@@ -48,11 +48,8 @@ impl<A: Arithmetic> Constraint<'_, A> {
             bound: z,
         };
         let v = toward.edge(self.arithmetic, y)?;
-        if self.arithmetic.span(operation, x, v).least == z {
-            Some(v)
-        } else {
-            None
-        }
+        let result = self.arithmetic.span(operation, x, v).least;
+        (result == z).then_some(v)
     }
 
     /// A partner in a range of readings: the first that is found, mode by mode.

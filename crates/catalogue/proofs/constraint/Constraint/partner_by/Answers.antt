@@ -1,6 +1,9 @@
-use Rattle.std.proofs.Common.{rules}
-use Rattle.catalogue.proofs.Allowed.{unequal}
+use Rattle.std.proofs.Common.{w32, FitsSigned, rules}
+use Rattle.catalogue.proofs.Allowed.{equal_words}
 use Rattle.catalogue.proofs.constraint.Constraint.partner_by.Goals as goal
 
-pub returns-else-span-z : goal.returns-else-span-z
-returns-else-span-z g c = let differ = unequal c.span.result.least c.args.z c.if-span-z.false in search rules
+pub returns : goal.returns
+returns g c =
+    let fits : FitsSigned w32 c.span-result.result.least = search rules in
+    let met = rw (equal_words c.span-result.result.least c.args.z fits c.ranges.z) at c.then_some.ensures in
+    search rules
