@@ -13,6 +13,16 @@ pub trait Readings {
     ghost LEAST: { ℤ };
 
     ghost GREATEST: { ℤ };
+
+    /// All readings, as a range.
+    final fn readings() -> Range
+        ensures { result ≡ record { low = LEAST; high = GREATEST } }
+    {
+        Range {
+            low: Self::LEAST,
+            high: Self::GREATEST,
+        }
+    }
 }
 
 /// A board's arithmetic on ranks: what the one narrowing text needs of it.
@@ -23,16 +33,6 @@ pub trait Arithmetic: Readings {
     /// An operand that is no reading counts as the reading nearest to it.
     fn span(&self, operation: Operation, x: i32, y: i32) -> Span
         ensures { result ≡ span_of (arith self.now) operation.kind operation.modes x y };
-
-    /// The readings, by the constants.
-    final fn readings(&self) -> Range
-        ensures { result ≡ readings (arith self.now) }
-    {
-        Range {
-            low: Self::LEAST,
-            high: Self::GREATEST,
-        }
-    }
 
     ghost ends: { (c : Self) → readings (arith c) ≡ record { low = Self.LEAST; high = Self.GREATEST } };
 

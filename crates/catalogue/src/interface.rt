@@ -25,17 +25,7 @@ pub trait Catalogue: Readings {
     fn partner(&self, operation: Operation, x: i32, z: i32, y: Range) -> Option<i32>
         ensures { result ≡ (meaning self.now).partner operation.kind operation.modes x z y };
 
-    /// The range from the least reading to the greatest, by the constants.
-    final fn ends(&self) -> Range
-        ensures { result ≡ all_readings (meaning self.now) }
-    {
-        Range {
-            low: Self::LEAST,
-            high: Self::GREATEST,
-        }
-    }
-
-    ghost ends_named: { (c : Self) → all_readings (meaning c) ≡ record { low = Self.LEAST; high = Self.GREATEST } };
+    ghost ends: { (c : Self) → all_readings (meaning c) ≡ record { low = Self.LEAST; high = Self.GREATEST } };
 
     ghost laws: { (c : Self) → Laws (meaning c) };
 }

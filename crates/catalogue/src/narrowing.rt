@@ -1,6 +1,6 @@
 ghost use Rattle.std.specs.Prelude.{◌≡◌, Some};
 ghost use Rattle.catalogue.specs.Ranges.{all_three, meet, unless_empty};
-ghost use Rattle.catalogue.specs.Operations.{falls_in_y, span_of};
+ghost use Rattle.catalogue.specs.Operations.{falls_in_y, readings, span_of};
 ghost use Rattle.catalogue.specs.Narrowing.{Narrowing, y_for_greatest, y_for_least};
 ghost use Rattle.catalogue.specs.Search.{between as Between, kept as Kept, narrowed, narrowed_readings, keeps_x, keeps_y, keeps_z, reaches, results as Results, stays_in};
 ghost use Rattle.catalogue.specs.Whole.{reaches_into, span_at_high, span_at_low};
@@ -93,6 +93,13 @@ fn whole(x: Range, y: Range, z: Range, results: Range) -> Option<Triple>
 }
 
 impl<A: Arithmetic> Constraint<'_, A> {
+    /// The readings of the arithmetic.
+    pub(crate) fn readings(&self) -> Range
+        ensures { result ≡ readings (A.arith self.now.arithmetic.now) }
+    {
+        A::readings()
+    }
+
     /// The least and the greatest result for two ranks.
     pub(crate) fn span(&self, x: i32, y: i32) -> Span
         ensures { result ≡ span_of (A.arith self.now.arithmetic.now) self.now.operation.kind self.now.operation.modes x y }
@@ -209,7 +216,7 @@ impl<A: Arithmetic> Constraint<'_, A> {
     fn narrow(&self, given: Triple) -> Option<Triple>
         ensures { result ≡ narrowed (A.arith self.now.arithmetic.now) self.now.operation.kind self.now.operation.modes given }
     {
-        let readings = self.arithmetic.readings();
+        let readings = self.readings();
         let x = readings.meet(given.x).unless_empty()?;
         let y = readings.meet(given.y).unless_empty()?;
         let z = readings.meet(given.z).unless_empty()?;

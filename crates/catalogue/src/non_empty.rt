@@ -1,4 +1,4 @@
-ghost use Rattle.std.specs.Prelude.{◌≡◌};
+ghost use Rattle.std.specs.Prelude.{◌≡◌, if◌then◌else◌};
 ghost use Rattle.catalogue.specs.Ranges.{Proper, extent};
 
 use crate::types::Range;
@@ -41,6 +41,13 @@ impl NonEmpty {
         ensures { result ≡ self.high }
     {
         self.range().high
+    }
+
+    /// The high end, or the low one.
+    pub(crate) fn end(self, high: bool) -> i32
+        ensures { result ≡ (if high then self.high else self.low) }
+    {
+        if high { self.high() } else { self.low() }
     }
 
     /// High less low.

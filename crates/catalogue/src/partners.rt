@@ -68,7 +68,7 @@ impl<A: Arithmetic> Constraint<'_, A> {
     fn partner(&self, x: i32, z: i32, y: Range) -> Option<i32>
         ensures { result ≡ partnered (A.arith self.now.arithmetic.now) self.now.operation.kind self.now.operation.modes x z y }
     {
-        let readings = self.arithmetic.readings();
+        let readings = self.readings();
         if both_in(readings, x, z) {
             self.partner_in(x, z, readings.meet(y).unless_empty())
         } else {
