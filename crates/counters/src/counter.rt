@@ -3,7 +3,7 @@ ghost use Rattle.counters.specs.Stopping.{stopping};
 ghost use Rattle.std.proofs.Common.{lit<};
 ghost use Rattle.counters.specs.Stops.{stopping_laws, counting_laws};
 
-use crate::stopping::{pattern_to, rank_to, stopped_span};
+use crate::stopping::Scale;
 use catalogue::arithmetic::Arithmetic;
 use catalogue::interface::Catalogue;
 use catalogue::narrowing::narrow;
@@ -11,11 +11,11 @@ use catalogue::partners::partner;
 use catalogue::types::{Kind, Modes, Range, Refusal, Span, Triple};
 
 /// Counters of 24 bits, whose sums stop at the greatest reading and whose differences stop at 0.
-#[derive(Clone, Copy)]
+#[derive(Clone, Copy, Debug, PartialEq, Eq)]
 pub struct Counter;
 
-/// The greatest reading.
-const END: u32 = 16_777_215;
+/// The counter's readings.
+const SCALE: Scale = Scale { end: 16_777_215 };
 
 impl Arithmetic for Counter {
     ghost arith = { λ _. stopping 16777215 };
@@ -30,14 +30,14 @@ impl Arithmetic for Counter {
     }
 
     fn span(&self, kind: Kind, modes: Modes, x: i32, y: i32) -> Span {
-        stopped_span(END, kind, modes, x, y)
+        SCALE.span(kind, modes, x, y)
     }
 }
 
 impl Catalogue for Counter {
     const LEAST: i32 = 0;
 
-    const GREATEST: i32 = END as i32;
+    const GREATEST: i32 = SCALE.end as i32;
 
     ghost meaning = { λ _. Meant };
 
@@ -51,11 +51,11 @@ impl Catalogue for Counter {
     }
 
     fn rank(&self, pattern: u32) -> Result<i32, Refusal> {
-        rank_to(END, pattern)
+        SCALE.rank(pattern)
     }
 
     fn pattern(&self, rank: i32) -> u32 {
-        pattern_to(END, rank)
+        SCALE.pattern(rank)
     }
 
     fn narrow(&self, kind: Kind, modes: Modes, given: Triple) -> Option<Triple> {
