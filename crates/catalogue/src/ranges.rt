@@ -1,7 +1,7 @@
 ghost use Rattle.std.specs.Prelude.{◌≡◌, IfSome};
 ghost use Rattle.catalogue.specs.Ranges.{Proper, all_three, extent, holds, meet, unless_empty};
 
-use crate::types::{Range, Triple};
+use crate::types::{Range, Span, Triple};
 
 impl Range {
     /// Whether a rank lies in the range.
@@ -39,6 +39,19 @@ impl Range {
         ensures { result ≡ extent self }
     {
         (self.high as i64 - self.low as i64) as u32
+    }
+}
+
+impl Span {
+    /// The span of one rank alone.
+    pub fn of(rank: i32) -> Span
+        ensures least { result.least ≡ rank }
+        ensures greatest { result.greatest ≡ rank }
+    {
+        Span {
+            least: rank,
+            greatest: rank,
+        }
     }
 }
 
