@@ -33,26 +33,6 @@ minus_le a b h = omega (arith, ints)
 alike : (v : ℤ) → v ≤ℤ v
 alike v = omega (arith, ints)
 
-pub down_nearest : (e : ℤ) → rounded Down e ≤ℤ rounded Nearest e
-unfolding rounded
-down_nearest (pos n) = plus_le _ _ (toward_nearest (floor_of n) (rest_of n))
-down_nearest (negsuc n) = minus_le _ _ (nearest_from (floor_of (suc n)) (rest_of (suc n)))
-
-pub nearest_up : (e : ℤ) → rounded Nearest e ≤ℤ rounded Up e
-unfolding rounded
-nearest_up (pos n) = plus_le _ _ (nearest_from (floor_of n) (rest_of n))
-nearest_up (negsuc n) = minus_le _ _ (toward_nearest (floor_of (suc n)) (rest_of (suc n)))
-
-pub down_zero : (e : ℤ) → rounded Down e ≤ℤ rounded TowardZero e
-unfolding rounded
-down_zero (pos n) = alike _
-down_zero (negsuc n) = minus_le _ _ (toward_from (floor_of (suc n)) (rest_of (suc n)))
-
-pub zero_up : (e : ℤ) → rounded TowardZero e ≤ℤ rounded Up e
-unfolding rounded
-zero_up (pos n) = plus_le _ _ (toward_from (floor_of n) (rest_of n))
-zero_up (negsuc n) = alike _
-
 -- rounding down gives the least rank, rounding up the greatest
 pub down_least : (b : Bool) (t : ℕ) (r : Rest) (m : Mode) → with_sign b (magnitude_by Down b t r) ≤ℤ with_sign b (magnitude_by m b t r)
 down_least true t r Nearest = minus_le _ _ (nearest_from t r)
@@ -73,3 +53,14 @@ up_greatest false t r Nearest = plus_le _ _ (nearest_from t r)
 up_greatest false t r Up = alike _
 up_greatest false t r Down = plus_le _ _ (toward_from t r)
 up_greatest false t r TowardZero = plus_le _ _ (toward_from t r)
+
+-- the same of the ranks that are computed
+pub down_below : (m : Mode) (e : ℤ) → rounded Down e ≤ℤ rounded m e
+unfolding rounded
+down_below m (pos n) = down_least false (floor_of n) (rest_of n) m
+down_below m (negsuc n) = down_least true (floor_of (suc n)) (rest_of (suc n)) m
+
+pub below_up : (m : Mode) (e : ℤ) → rounded m e ≤ℤ rounded Up e
+unfolding rounded
+below_up m (pos n) = up_greatest false (floor_of n) (rest_of n) m
+below_up m (negsuc n) = up_greatest true (floor_of (suc n)) (rest_of (suc n)) m

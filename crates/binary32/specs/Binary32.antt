@@ -16,6 +16,12 @@ result_of Sum m x y = rounded m (value x +ℤ value y)
 result_of Difference m x y = rounded m (value x +ℤ neg_ℤ (value y))
 result_of Peak m x y = int_max x y
 
+-- the exact number of units that a result is the rounding of; a peak is the larger reading, whose value is kept
+abbrev pub exact_of : Kind → ℤ → ℤ → ℤ
+exact_of Sum x y = value x +ℤ value y
+exact_of Difference x y = value x +ℤ neg_ℤ (value y)
+exact_of Peak x y = value (int_max x y)
+
 -- the arithmetic: its readings, and these results
 abbrev pub binary32 : Arith
 binary32 = record { least = neg_ℤ (pos largest); greatest = pos largest; result = result_of }

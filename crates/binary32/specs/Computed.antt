@@ -1,8 +1,6 @@
 -- Computed: the four roundings in closed form, proved to be those of Rounding.
 use Rattle.std.specs.Prelude.{ℕ, suc, ◌+◌, ◌-◌, ◌*◌, ◌/◌, ◌%◌, ◌^◌, min, Bool, true, false, cond, not, ℤ, pos, negsuc, neg_ℤ, ◌==◌, nat_lt}
 use Rattle.std.specs.Float.Ieee.{size}
-use Rattle.catalogue.specs.declared.types.Kind.{Kind}
-use Rattle.catalogue.specs.declared.types.Kind.TheVariants.{Sum, Difference, Peak}
 use Rattle.catalogue.specs.declared.types.Mode.{Mode}
 use Rattle.catalogue.specs.declared.types.Mode.TheVariants.{Nearest, Up, Down, TowardZero}
 use Rattle.binary32.specs.declared.types.ExactSum.{ExactSum}
@@ -62,9 +60,3 @@ rounded m (negsuc n) = neg_ℤ (pos (magnitude_by m true (floor_of (suc n)) (res
 -- the same, from an exact sum's sign and location
 abbrev pub rank_by : ExactSum → Mode → ℤ
 rank_by s m = with_sign s.negative (magnitude_by m s.negative s.location.rank s.location.rest)
-
--- what is added to x: y or, for a difference, y with the other sign
-abbrev pub addend_of : Kind → ℤ → ℤ
-addend_of Sum y = y
-addend_of Difference y = neg_ℤ y
-addend_of Peak y = y

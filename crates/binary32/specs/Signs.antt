@@ -1,9 +1,9 @@
 -- The exact sum of two ranks by sign and location, and the rank that a mode makes of it
-use Rattle.std.specs.Prelude.{◌≡◌, ℕ, zero, suc, ◌+◌, ◌-◌, ◌<◌, ◌≤◌, Bool, true, false, ◌⊎◌, ℤ, pos, negsuc, ◌+ℤ◌, neg_ℤ, unsigned_abs, refl}
+use Rattle.std.specs.Prelude.{◌≡◌, ℕ, zero, suc, ◌+◌, ◌-◌, ◌<◌, ◌≤◌, Bool, true, false, ℤ, pos, negsuc, ◌+ℤ◌, neg_ℤ, unsigned_abs, refl}
 use Rattle.std.specs.Bool.{beq}
-use Rattle.std.proofs.Common.{sym, ap, ◌∙◌, inl, inr, arith}
+use Rattle.std.proofs.Common.{sym, ap, ◌∙◌, arith}
 use Rattle.std.proofs.Math.Dec.{leb-suc-zero}
-use Rattle.std.specs.Int.Signed.{lt_z}
+use Rattle.std.specs.Int.{is_negative}
 use Rattle.std.proofs.lemmas.Int.{ints}
 use Rattle.catalogue.specs.declared.types.Mode.{Mode}
 use Rattle.catalogue.specs.declared.types.Mode.TheVariants.{Nearest, Up, Down, TowardZero}
@@ -11,49 +11,35 @@ use Rattle.binary32.specs.declared.types.ExactSum.{ExactSum}
 use Rattle.binary32.specs.declared.types.Location.{Location}
 use Rattle.binary32.specs.declared.types.Rest.{Rest}
 use Rattle.binary32.specs.declared.types.Rest.TheVariants.{Exact}
-use Rattle.binary32.specs.Units.{units, with_sign, value, beyond, Reading}
+use Rattle.binary32.specs.Units.{units, with_sign, value, beyond}
 use Rattle.binary32.specs.Locations.{Lies, LiesAt, Locates, joined}
 use Rattle.binary32.specs.Computed.{floor_of, rest_of, magnitude_by, rank_by, rounded}
 use Rattle.binary32.specs.Floors.{units_le}
 use Rattle.binary32.specs.Located.{lies_rank, lies_rest}
 
-abbrev is_negative : ℤ → Bool
-is_negative (pos n) = false
-is_negative (negsuc n) = true
+abbrev below : ℤ → Bool
+below (pos n) = false
+below (negsuc n) = true
 
-below_zero : (z : ℤ) → lt_z z (pos 0) ≡ is_negative z
+below_zero : (z : ℤ) → is_negative z ≡ below z
 below_zero (pos n) = leb-suc-zero n
 below_zero (negsuc n) = refl
 
 -- of two ranks the one of larger magnitude has the sum's sign
-joins : (x y : ℤ) (l : Location) → unsigned_abs y ≤ unsigned_abs x → LiesAt (joined (beq (is_negative x) (is_negative y)) (units (unsigned_abs x)) (units (unsigned_abs y))) l
-    → Locates (value x +ℤ value y) (record { negative = is_negative x; location = l })
+joins : (x y : ℤ) (l : Location) → unsigned_abs y ≤ unsigned_abs x → LiesAt (joined (beq (below x) (below y)) (units (unsigned_abs x)) (units (unsigned_abs y))) l
+    → Locates (value x +ℤ value y) (record { negative = below x; location = l })
 joins (pos m) (pos k) l h c = record { size = units m + units k; is = refl; lies = c }
 joins (pos m) (negsuc k) l h c = record { size = units m - units (suc k); is = (let u = units_le (suc k) m h in omega (arith, ints)); lies = c }
 joins (negsuc m) (pos k) l h c = record { size = units (suc m) - units k; is = (let u = units_le k (suc m) h in omega (arith, ints)); lies = c }
 joins (negsuc m) (negsuc k) l h c = record { size = units (suc m) + units (suc k); is = omega (arith, ints); lies = c }
 
--- as the code has it: x' is x, to its bits and back
-pub sum_located : (x y x' y' : ℤ) (a b : ℕ) (l : Location) → x' ≡ x → y' ≡ y → a ≡ unsigned_abs x' → b ≡ unsigned_abs y' → unsigned_abs y ≤ unsigned_abs x
-    → LiesAt (joined (beq (lt_z x' (pos 0)) (lt_z y' (pos 0))) (units a) (units b)) l → Locates (value x +ℤ value y) (record { negative = lt_z x' (pos 0); location = l })
-sum_located x y x' y' a b l p q u v h c =
-    let au : a ≡ unsigned_abs x = u ∙ ap unsigned_abs p in
-    let bv : b ≡ unsigned_abs y = v ∙ ap unsigned_abs q in
-    let sx : lt_z x' (pos 0) ≡ is_negative x = ap (λ (z : ℤ). lt_z z (pos 0)) p ∙ below_zero x in
-    let sy : lt_z y' (pos 0) ≡ is_negative y = ap (λ (z : ℤ). lt_z z (pos 0)) q ∙ below_zero y in
-    rw sx (joins x y l h (rw (sx, sy, au, bv) at c))
-
--- two ranks in either order
-abbrev Either : ℤ → ℤ → ℤ → ℤ → Type 0
-Either x y a b = ((a ≡ x) × (b ≡ y)) ⊎ ((a ≡ y) × (b ≡ x))
-
-pub pair_sum : (x y a b : ℤ) → Either x y a b → value a +ℤ value b ≡ value x +ℤ value y
-pair_sum x y a b (inl p) = let u = ap value p.0 in let v = ap value p.1 in omega (arith, ints)
-pair_sum x y a b (inr p) = let u = ap value p.0 in let v = ap value p.1 in omega (arith, ints)
-
-pub pair_reading : (x y a b : ℤ) → Either x y a b → Reading x → Reading y → unsigned_abs a < beyond
-pair_reading x y a b (inl p) h k = let u = p.0 in omega (arith, ints, h.0, h.1)
-pair_reading x y a b (inr p) h k = let u = p.0 in omega (arith, ints, k.0, k.1)
+-- the same with the signs and magnitudes that the code finds
+pub sum_located : (x y : ℤ) (n o : Bool) (a b : ℕ) (l : Location) → n ≡ is_negative x → o ≡ is_negative y → a ≡ unsigned_abs x → b ≡ unsigned_abs y → unsigned_abs y ≤ unsigned_abs x
+    → LiesAt (joined (beq n o) (units a) (units b)) l → Locates (value x +ℤ value y) (record { negative = n; location = l })
+sum_located x y n o a b l p q u v h c =
+    let sx : n ≡ below x = p ∙ below_zero x in
+    let sy : o ≡ below y = q ∙ below_zero y in
+    rw sx (joins x y l h (rw (sx, sy, u, v) at c))
 
 -- ---- a mode's rank from a location
 

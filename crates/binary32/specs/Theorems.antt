@@ -5,6 +5,7 @@ use Rattle.std.proofs.lemmas.Int.{ints, clamps}
 use Rattle.catalogue.specs.declared.types.Kind.{Kind}
 use Rattle.catalogue.specs.declared.types.Kind.TheVariants.{Sum, Difference, Peak}
 use Rattle.catalogue.specs.declared.types.Mode.{Mode}
+use Rattle.catalogue.specs.declared.types.Mode.TheVariants.{Nearest, TowardZero}
 use Rattle.catalogue.specs.Operations.{ArithLaws, InOrder, falls_in_y}
 use Rattle.catalogue.specs.Meanings.{Laws}
 use Rattle.catalogue.proofs.Ranked.{ranked_laws}
@@ -19,7 +20,7 @@ use Rattle.binary32.specs.Theory.{Stands, Values, Written, Roundings}
 use Rattle.binary32.specs.Fields.{fields, read_reading, reread, rewritten}
 use Rattle.binary32.specs.Whole.{rounded_mono, value_mono}
 use Rattle.binary32.specs.StandardLemmas.{rounds, rounds_one, value_lt, reading_abs}
-use Rattle.binary32.specs.Between.{down_nearest, nearest_up, down_zero, zero_up}
+use Rattle.binary32.specs.Between.{down_below, below_up}
 use Rattle.binary32.specs.Signs.{exact}
 
 -- ---- laws
@@ -57,10 +58,10 @@ roundings = record {
   rounds = rounds;
   sole = λ m e r p. rounds_one m e r (rounded m e) p (rounds m e);
   grow = rounded_mono;
-  down_nearest = down_nearest;
-  nearest_up = nearest_up;
-  down_zero = down_zero;
-  zero_up = zero_up;
+  down_nearest = down_below Nearest;
+  nearest_up = below_up Nearest;
+  down_zero = down_below TowardZero;
+  zero_up = below_up TowardZero;
   exact = λ m r h. exact m r (reading_abs r h);
 }
 

@@ -1,23 +1,21 @@
-ghost use Rattle.std.specs.Prelude.{◌≡◌, ◌+ℤ◌, neg_ℤ};
+ghost use Rattle.std.specs.Prelude.{◌≡◌, refl};
 ghost use Rattle.catalogue.specs.Operations.{nearest_reading};
-ghost use Rattle.binary32.specs.Units.{value};
 ghost use Rattle.binary32.specs.Rounding.{Rounds};
-ghost use Rattle.binary32.specs.Binary32.{binary as Meant, binary32 as Arithmetic32};
+ghost use Rattle.binary32.specs.Binary32.{binary as Meant, binary32 as Arithmetic32, exact_of};
 ghost use Rattle.binary32.specs.Theory.{Stands};
 ghost use Rattle.binary32.specs.Theorems.{binary32_laws, binary_laws};
 
 use crate::patterns::{pattern_of, rank_of};
-use crate::readings;
-use crate::readings::nearest;
-use crate::sums::{exact_difference, exact_sum, span_of};
-use catalogue::arithmetic::Arithmetic;
+use crate::readings::{GREATEST, LEAST, Reading};
+use crate::sums::span_of;
+use catalogue::arithmetic::{Arithmetic, Readings};
 use catalogue::interface::Catalogue;
 use catalogue::narrowing::narrow;
 use catalogue::partners::partner;
-use catalogue::types::{Kind, Mode, Modes, Range, Refusal, Span, Triple};
+use catalogue::types::{Kind, Mode, Modes, Operation, Range, Refusal, Span, Triple};
 
 /// Boards that compute in IEEE 754 binary32.
-#[derive(Clone, Copy)]
+#[derive(Clone, Copy, Debug, PartialEq, Eq)]
 pub struct Binary32;
 
 impl Binary32 {
@@ -29,54 +27,46 @@ impl Binary32 {
     }
 }
 
-/// The sum of two ranks under one mode. An operand that is no reading counts as the reading nearest to it.
-pub fn round_sum(x: i32, y: i32, mode: Mode) -> i32
-    ensures value { result ≡ Arithmetic32.result Kind.Sum mode (nearest_reading Arithmetic32 x) (nearest_reading Arithmetic32 y) }
-    ensures standard { Rounds mode (value (nearest_reading Arithmetic32 x) +ℤ value (nearest_reading Arithmetic32 y)) result }
+/// The result of an operation on two ranks under one mode. An operand that is no reading counts as the reading nearest to it.
+pub fn round(kind: Kind, mode: Mode, x: i32, y: i32) -> i32
+    ensures value { result ≡ Arithmetic32.result kind mode (nearest_reading Arithmetic32 x) (nearest_reading Arithmetic32 y) }
+    ensures standard { Rounds mode (exact_of kind (nearest_reading Arithmetic32 x) (nearest_reading Arithmetic32 y)) result }
 {
-    exact_sum(nearest(x), nearest(y)).round(mode)
+    let operation = Operation {
+        kind,
+        modes: Modes::only(mode),
+    };
+    Binary32.span(operation, x, y).least
 }
 
-/// The difference of two ranks under one mode. An operand that is no reading counts as the reading nearest to it.
-pub fn round_difference(x: i32, y: i32, mode: Mode) -> i32
-    ensures value { result ≡ Arithmetic32.result Kind.Difference mode (nearest_reading Arithmetic32 x) (nearest_reading Arithmetic32 y) }
-    ensures standard { Rounds mode (value (nearest_reading Arithmetic32 x) +ℤ neg_ℤ (value (nearest_reading Arithmetic32 y))) result }
-{
-    exact_difference(nearest(x), nearest(y)).round(mode)
+impl Readings for Binary32 {
+    const LEAST: i32 = LEAST;
+
+    const GREATEST: i32 = GREATEST;
+
+    ghost LEAST = { Arithmetic32.least };
+
+    ghost GREATEST = { Arithmetic32.greatest };
 }
 
 impl Arithmetic for Binary32 {
     ghost arith = { λ _. Arithmetic32 };
 
+    ghost ends = { λ c. refl };
+
     ghost laws = { λ c. binary32_laws };
 
-    fn readings(&self) -> Range {
-        Range {
-            low: readings::LEAST,
-            high: readings::GREATEST,
-        }
-    }
-
-    fn span(&self, kind: Kind, modes: Modes, x: i32, y: i32) -> Span {
-        span_of(kind, modes, nearest(x), nearest(y))
+    fn span(&self, operation: Operation, x: i32, y: i32) -> Span {
+        span_of(operation, Reading::nearest(x), Reading::nearest(y))
     }
 }
 
 impl Catalogue for Binary32 {
-    const LEAST: i32 = readings::LEAST;
-
-    const GREATEST: i32 = readings::GREATEST;
-
     ghost meaning = { λ _. Meant };
 
-    ghost laws = { λ c. binary_laws };
+    ghost ends = { λ c. refl };
 
-    fn ends(&self) -> Range {
-        Range {
-            low: Self::LEAST,
-            high: Self::GREATEST,
-        }
-    }
+    ghost laws = { λ c. binary_laws };
 
     fn rank(&self, pattern: u32) -> Result<i32, Refusal> {
         rank_of(pattern)
@@ -86,11 +76,11 @@ impl Catalogue for Binary32 {
         pattern_of(rank)
     }
 
-    fn narrow(&self, kind: Kind, modes: Modes, given: Triple) -> Option<Triple> {
-        narrow(self, kind, modes, given)
+    fn narrow(&self, operation: Operation, given: Triple) -> Option<Triple> {
+        narrow(self, operation, given)
     }
 
-    fn partner(&self, kind: Kind, modes: Modes, x: i32, z: i32, y: Range) -> Option<i32> {
-        partner(self, kind, modes, x, z, y)
+    fn partner(&self, operation: Operation, x: i32, z: i32, y: Range) -> Option<i32> {
+        partner(self, operation, x, z, y)
     }
 }

@@ -13,11 +13,20 @@ fn shifted(n: u64, k: u32) -> u64
     n << k
 }
 
+/// The bits of a fraction, below the exponent field.
+const FRACTION_BITS: u32 = 23;
+
+/// One step of the exponent field.
+const EXPONENT_STEP: u32 = 1 << FRACTION_BITS;
+
+/// The bits of a significand: the fraction's, and the leading one.
+const SIGNIFICAND_BITS: u32 = FRACTION_BITS + 1;
+
 /// A magnitude's scale: it is its significand times 2 to the scale, in units.
 fn scale(magnitude: u32) -> u32
     ensures { result ≡ scale_of magnitude }
 {
-    (magnitude >> 23).saturating_sub(1)
+    (magnitude >> FRACTION_BITS).saturating_sub(1)
 }
 
 /// A magnitude's significand: its fraction, with the leading bit unless it is subnormal.
@@ -25,7 +34,7 @@ fn significand(magnitude: u32) -> u32
     ensures value { result ≡ significand_of magnitude }
     ensures bits { result < 2 ^ 24 }
 {
-    magnitude - scale(magnitude) * 0x80_0000
+    magnitude - scale(magnitude) * EXPONENT_STEP
 }
 
 /// The magnitude with a scale and a significand; a significand of 24 bits adds one to the exponent field.
@@ -34,7 +43,7 @@ fn magnitude_of(scale: u32, significand: u32) -> u32
     requires bits { significand < 2 ^ 24 }
     ensures { result ≡ scale * 2 ^ 23 + significand }
 {
-    scale * 0x80_0000 + significand
+    scale * EXPONENT_STEP + significand
 }
 
 /// How far a sum of at most 24 bits moves up: to 24 bits, and by its scale at most.
@@ -42,7 +51,7 @@ fn room(width: u32, scale: u32) -> u32
     requires { width ≤ 24 }
     ensures { result ≡ Min (24 - width) scale }
 {
-    (24 - width).min(scale)
+    (SIGNIFICAND_BITS - width).min(scale)
 }
 
 /// What dropped bits make, by half of what the last kept bit counts.
@@ -72,14 +81,14 @@ fn locate_scaled(sum: u64, scale: u32) -> Location
         };
     }
     let width = 64 - sum.leading_zeros();
-    if width <= 24 {
+    if width <= SIGNIFICAND_BITS {
         let up = room(width, scale);
         Location {
             rank: magnitude_of(scale - up, shifted(sum, up) as u32),
             rest: Rest::Exact,
         }
     } else {
-        let dropped = width - 24;
+        let dropped = width - SIGNIFICAND_BITS;
         let kept = sum >> dropped;
         Location {
             rank: magnitude_of(scale + dropped, kept as u32),

@@ -3,16 +3,19 @@ ghost use Rattle.catalogue.specs.Meanings.{rank_or_2};
 ghost use Rattle.catalogue.specs.Refusals.{numbered};
 ghost use Rattle.binary32.specs.Patterns.{read as Read, write as Write};
 
-use crate::readings::{BEYOND, nearest, signed};
+use crate::readings::{BEYOND, Reading, signed};
 use catalogue::types::Refusal;
+
+/// The bit of a pattern that says that its rank is negative.
+const SIGN_BIT: u32 = 0x8000_0000;
 
 /// The rank of a pattern, unless it is an infinity or a NaN.
 pub(crate) fn rank_of(pattern: u32) -> Result<i32, Refusal>
     ensures { numbered result ≡ rank_or_2 (Read pattern) }
 {
-    let magnitude = pattern % 0x8000_0000;
+    let magnitude = pattern % SIGN_BIT;
     if magnitude < BEYOND {
-        Ok(signed(pattern >= 0x8000_0000, magnitude))
+        Ok(signed(pattern >= SIGN_BIT, magnitude))
     } else {
         Err(Refusal::NotAReading)
     }
@@ -22,10 +25,10 @@ pub(crate) fn rank_of(pattern: u32) -> Result<i32, Refusal>
 pub(crate) fn pattern_of(rank: i32) -> u32
     ensures { result ≡ Write rank }
 {
-    let reading = nearest(rank);
-    if reading < 0 {
-        0x8000_0000 + reading.unsigned_abs()
+    let reading = Reading::nearest(rank);
+    if reading.is_negative() {
+        SIGN_BIT + reading.magnitude()
     } else {
-        reading as u32
+        reading.magnitude()
     }
 }

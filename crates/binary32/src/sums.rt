@@ -1,46 +1,45 @@
-ghost use Rattle.std.specs.Prelude.{◌≡◌, ◌+◌, ◌≤◌, min, ◌⊎◌, ◌+ℤ◌, neg_ℤ, unsigned_abs};
+ghost use Rattle.std.specs.Prelude.{◌≡◌, ◌+◌, ◌≤◌, min, ◌+ℤ◌, neg_ℤ, unsigned_abs};
 ghost use Rattle.catalogue.specs.Modes.{greater_if, greatest_of, has_mode, least_of, lesser_if};
 ghost use Rattle.catalogue.specs.Operations.{greatest_result, least_result};
-ghost use Rattle.binary32.specs.Units.{Reading, beyond, value};
+ghost use Rattle.binary32.specs.Units.{beyond, value};
 ghost use Rattle.binary32.specs.Locations.{Locates};
-ghost use Rattle.binary32.specs.Computed.{addend_of, directed_to, magnitude_by, rank_by, to_nearest};
+ghost use Rattle.binary32.specs.Computed.{directed_to, magnitude_by, rank_by, to_nearest};
 ghost use Rattle.binary32.specs.Binary32.{binary32 as Arithmetic32};
 
 use crate::magnitudes::locate;
-use crate::readings::{BEYOND, LARGEST, signed};
-use crate::types::{ExactSum, Location, Operands, Rest};
-use catalogue::types::{Kind, Mode, Modes, Span};
+use crate::readings::{BEYOND, LARGEST, Reading, signed};
+use crate::types::{ExactSum, Location, Rest};
+use catalogue::types::{Kind, Mode, Modes, Operation, Span};
+use std::ops::{Add, Sub};
 
 impl Location {
-    /// The rank's magnitude, or the next where `up` is 1, but at most `end`.
-    fn raised(self, up: u32, end: u32) -> u32
-        requires { up ≤ end }
-        ensures { result ≡ min (self.rank + up) end }
+    /// The magnitude `up` above the rank's, but at most the first past the readings.
+    fn raised(self, up: u32) -> u32
+        ensures { result ≡ min (self.rank + up) beyond }
     {
-        self.rank.min(end - up) + up
+        self.rank.saturating_add(up).min(BEYOND)
     }
 
     /// The magnitude away from zero or toward it; only away from zero is there one beyond the readings.
     fn directed(self, away: bool) -> u32
         ensures { result ≡ directed_to away self.rank self.rest }
     {
-        let up = match (away, self.rest) {
-            (false, _) | (true, Rest::Exact) => 0,
-            (true, Rest::BelowMiddle | Rest::Middle | Rest::AboveMiddle) => 1,
-        };
-        let end = if away { BEYOND } else { LARGEST };
-        self.raised(up, end)
+        match (away, self.rest) {
+            (false, _) => self.rank.min(LARGEST),
+            (true, Rest::Exact) => self.raised(0),
+            (true, Rest::BelowMiddle | Rest::Middle | Rest::AboveMiddle) => self.raised(1),
+        }
     }
 
     /// The nearest magnitude, at a tie the even one.
     fn nearest(self) -> u32
         ensures { result ≡ to_nearest self.rank self.rest }
     {
-        let up = match (self.rest, self.rank % 2 == 1) {
-            (Rest::AboveMiddle, _) | (Rest::Middle, true) => 1,
-            (Rest::Exact | Rest::BelowMiddle, _) | (Rest::Middle, false) => 0,
-        };
-        self.raised(up, BEYOND)
+        match self.rest {
+            Rest::Exact | Rest::BelowMiddle => self.raised(0),
+            Rest::Middle => self.raised(self.rank % 2),
+            Rest::AboveMiddle => self.raised(1),
+        }
     }
 }
 
@@ -120,93 +119,55 @@ impl ExactSum {
     }
 }
 
-/// Two operands in the order of their magnitudes.
-fn ordered(x: i32, y: i32) -> Operands
-    ensures order { unsigned_abs result.smaller ≤ unsigned_abs result.larger }
-    ensures pair { ((result.larger ≡ x) × (result.smaller ≡ y)) ⊎ ((result.larger ≡ y) × (result.smaller ≡ x)) }
+/// The exact sum of two readings, the one of larger magnitude first: it has that one's sign.
+fn sum_of(larger: Reading, smaller: Reading) -> ExactSum
+    requires { unsigned_abs smaller ≤ unsigned_abs larger }
+    ensures { Locates (value larger +ℤ value smaller) result }
 {
-    if y.unsigned_abs() <= x.unsigned_abs() {
-        Operands {
-            larger: x,
-            smaller: y,
-        }
-    } else {
-        Operands {
-            larger: y,
-            smaller: x,
-        }
-    }
-}
-
-/// The exact sum of two readings.
-pub(crate) fn exact_sum(x: i32, y: i32) -> ExactSum
-    requires x { Reading x }
-    requires y { Reading y }
-    ensures { Locates (value x +ℤ value y) result }
-{
-    let pair = ordered(x, y);
-    let like = (pair.larger < 0) == (pair.smaller < 0);
+    let negative = larger.is_negative();
+    let like = negative == smaller.is_negative();
     ExactSum {
-        negative: pair.larger < 0,
-        location: locate(
-            pair.larger.unsigned_abs(),
-            pair.smaller.unsigned_abs(),
-            like,
-        ),
+        negative,
+        location: locate(larger.magnitude(), smaller.magnitude(), like),
     }
 }
 
-/// The rank of the same magnitude and the other sign.
-fn negated(rank: i32) -> i32
-    requires { Reading rank }
-    ensures value { result ≡ neg_ℤ rank }
-    ensures reads { Reading result }
-{
-    -rank
-}
+/// The exact sum.
+impl Add for Reading {
+    type Output = ExactSum;
 
-/// The exact difference of two readings: a sum with the second one negated.
-pub(crate) fn exact_difference(x: i32, y: i32) -> ExactSum
-    requires x { Reading x }
-    requires y { Reading y }
-    ensures { Locates (value x +ℤ neg_ℤ (value y)) result }
-{
-    exact_sum(x, negated(y))
-}
+    ghost add_gives = { λ x y s. Locates (value x +ℤ value y) s };
 
-/// What is added to x: y or, for a difference, y with the other sign.
-fn addend(kind: Kind, y: i32) -> i32
-    requires { Reading y }
-    ensures value { result ≡ addend_of kind y }
-    ensures reads { Reading result }
-{
-    match kind {
-        Kind::Difference => negated(y),
-        Kind::Sum | Kind::Peak => y,
+    fn add(self, other: Reading) -> ExactSum {
+        if other.magnitude() <= self.magnitude() {
+            sum_of(self, other)
+        } else {
+            sum_of(other, self)
+        }
     }
 }
 
-/// The least and the greatest sum of readings.
-fn sum_span(modes: Modes, x: i32, y: i32) -> Span
-    requires x { Reading x }
-    requires y { Reading y }
-    ensures least { result.least ≡ least_result Arithmetic32 Kind.Sum modes x y }
-    ensures greatest { result.greatest ≡ greatest_result Arithmetic32 Kind.Sum modes x y }
-{
-    exact_sum(x, y).span(modes)
+/// The exact difference.
+impl Sub for Reading {
+    type Output = ExactSum;
+
+    ghost sub_gives = { λ x y s. Locates (value x +ℤ neg_ℤ (value y)) s };
+
+    fn sub(self, other: Reading) -> ExactSum {
+        self + -other
+    }
 }
 
 /// The least and the greatest result of an operation on readings.
-pub(crate) fn span_of(kind: Kind, modes: Modes, x: i32, y: i32) -> Span
-    requires x { Reading x }
-    requires y { Reading y }
-    ensures least { result.least ≡ least_result Arithmetic32 kind modes x y }
-    ensures greatest { result.greatest ≡ greatest_result Arithmetic32 kind modes x y }
+pub(crate) fn span_of(operation: Operation, x: Reading, y: Reading) -> Span
+    ensures least { result.least ≡ least_result Arithmetic32 operation.kind operation.modes x y }
+    ensures greatest { result.greatest ≡ greatest_result Arithmetic32 operation.kind operation.modes x y }
 {
-    match kind {
-        Kind::Sum | Kind::Difference => sum_span(modes, x, addend(kind, y)),
+    match operation.kind {
+        Kind::Sum => (x + y).span(operation.modes),
+        Kind::Difference => (x - y).span(operation.modes),
         Kind::Peak => {
-            let larger = x.max(y);
+            let larger = x.rank().max(y.rank());
             Span {
                 least: larger,
                 greatest: larger,

@@ -1,5 +1,5 @@
 /// Where an exact magnitude lies from a rank's magnitude up to the next: at it, or below, at or above the middle.
-#[derive(Clone, Copy)]
+#[derive(Clone, Copy, Debug, PartialEq, Eq)]
 pub enum Rest {
     Exact,
     BelowMiddle,
@@ -8,22 +8,15 @@ pub enum Rest {
 }
 
 /// An exact magnitude: the greatest rank at or below it, and what is left.
-#[derive(Clone, Copy)]
+#[derive(Clone, Copy, Debug, PartialEq, Eq)]
 pub struct Location {
     pub rank: u32,
     pub rest: Rest,
 }
 
 /// An exact sum: its sign, and where its magnitude lies.
-#[derive(Clone, Copy)]
+#[derive(Clone, Copy, Debug, PartialEq, Eq)]
 pub struct ExactSum {
     pub negative: bool,
     pub location: Location,
-}
-
-/// Two operands, the one of larger magnitude first.
-#[derive(Clone, Copy)]
-pub struct Operands {
-    pub larger: i32,
-    pub smaller: i32,
 }

@@ -3,7 +3,7 @@ ghost use Rattle.catalogue.specs.Ranges.{holds, meet, unless_empty};
 ghost use Rattle.catalogue.specs.Whole.{holds_all};
 
 use crate::non_empty::NonEmpty;
-use crate::types::Range;
+use crate::types::{Range, Span};
 
 impl Range {
     /// Whether a rank lies in the range.
@@ -38,6 +38,19 @@ impl Range {
         Range {
             low: self.low.max(other.low),
             high: self.high.min(other.high),
+        }
+    }
+}
+
+impl Span {
+    /// The span of one rank alone.
+    pub fn of(rank: i32) -> Span
+        ensures least { result.least ≡ rank }
+        ensures greatest { result.greatest ≡ rank }
+    {
+        Span {
+            least: rank,
+            greatest: rank,
         }
     }
 }

@@ -1,68 +1,65 @@
+ghost use Rattle.std.specs.Prelude.{pos, refl};
 ghost use Rattle.counters.specs.Counters.{counter as Meant};
 ghost use Rattle.counters.specs.Stopping.{stopping};
 ghost use Rattle.std.proofs.Common.{lit<};
 ghost use Rattle.counters.specs.Stops.{stopping_laws, counting_laws};
 
-use crate::stopping::{pattern_to, rank_to, stopped_span};
-use catalogue::arithmetic::Arithmetic;
+use crate::stopping::Scale;
+use catalogue::arithmetic::{Arithmetic, Readings};
 use catalogue::interface::Catalogue;
 use catalogue::narrowing::narrow;
 use catalogue::partners::partner;
-use catalogue::types::{Kind, Modes, Range, Refusal, Span, Triple};
+use catalogue::types::{Operation, Range, Refusal, Span, Triple};
 
 /// Counters of 24 bits, whose sums stop at the greatest reading and whose differences stop at 0.
-#[derive(Clone, Copy)]
+#[derive(Clone, Copy, Debug, PartialEq, Eq)]
 pub struct Counter;
 
-/// The greatest reading.
-const END: u32 = 16_777_215;
+/// The counter's readings.
+const SCALE: Scale = Scale { end: 16_777_215 };
+
+impl Readings for Counter {
+    const LEAST: i32 = 0;
+
+    const GREATEST: i32 = SCALE.end as i32;
+
+    ghost LEAST = { pos 0 };
+
+    ghost GREATEST = { pos 16777215 };
+}
 
 impl Arithmetic for Counter {
     ghost arith = { λ _. stopping 16777215 };
 
+    ghost ends = { λ c. refl };
+
     ghost laws = { λ c. stopping_laws 16777215 (lit< tt) };
 
-    fn readings(&self) -> Range {
-        Range {
-            low: <Counter as Catalogue>::LEAST,
-            high: <Counter as Catalogue>::GREATEST,
-        }
-    }
-
-    fn span(&self, kind: Kind, modes: Modes, x: i32, y: i32) -> Span {
-        stopped_span(END, kind, modes, x, y)
+    fn span(&self, operation: Operation, x: i32, y: i32) -> Span {
+        SCALE.span(operation, x, y)
     }
 }
 
 impl Catalogue for Counter {
-    const LEAST: i32 = 0;
-
-    const GREATEST: i32 = END as i32;
-
     ghost meaning = { λ _. Meant };
+
+    ghost ends = { λ c. refl };
 
     ghost laws = { λ c. counting_laws 16777215 (lit< tt) };
 
-    fn ends(&self) -> Range {
-        Range {
-            low: Self::LEAST,
-            high: Self::GREATEST,
-        }
-    }
-
     fn rank(&self, pattern: u32) -> Result<i32, Refusal> {
-        rank_to(END, pattern)
+        SCALE.rank(pattern)
     }
 
     fn pattern(&self, rank: i32) -> u32 {
-        pattern_to(END, rank)
+        SCALE.pattern(rank)
     }
 
-    fn narrow(&self, kind: Kind, modes: Modes, given: Triple) -> Option<Triple> {
-        narrow(self, kind, modes, given)
+    fn narrow(&self, operation: Operation, given: Triple) -> Option<Triple> {
+        narrow(self, operation, given)
     }
 
-    fn partner(&self, kind: Kind, modes: Modes, x: i32, z: i32, y: Range) -> Option<i32> {
-        partner(self, kind, modes, x, z, y)
+    fn partner(&self, operation: Operation, x: i32, z: i32, y: Range) -> Option<i32> {
+        partner(self, operation, x, z, y)
     }
 }

@@ -13,44 +13,44 @@ pub shifted-requires : goal.shifted-requires
 shifted-requires c =
     let f = wide c.args.sum c.ranges.sum.fits in
     let p : 0 < c.args.sum = omega arith in
-    let t = up_top _ c.args.scale _ _ f p c.if-width-le24.true c.requires c.room-up.ensures in
+    let t = up_top _ c.args.scale _ _ f p c.if-width-le-SIGNIFICAND_BITS.true c.requires c.room-up.ensures in
     record { place = omega arith; room = omega (arith, t) }
 
 pub overflow_cast-shifted : goal.overflow_cast-shifted
 overflow_cast-shifted c =
     let f = wide c.args.sum c.ranges.sum.fits in
     let p : 0 < c.args.sum = omega arith in
-    omega (arith, up_top _ c.args.scale _ _ f p c.if-width-le24.true c.requires c.room-up.ensures)
+    omega (arith, up_top _ c.args.scale _ _ f p c.if-width-le-SIGNIFICAND_BITS.true c.requires c.room-up.ensures)
 
 pub magnitude_of-requires : goal.magnitude_of-requires
 magnitude_of-requires c =
     let f = wide c.args.sum c.ranges.sum.fits in
     let p : 0 < c.args.sum = omega arith in
-    let t = up_top _ c.args.scale _ _ f p c.if-width-le24.true c.requires c.room-up.ensures in
+    let t = up_top _ c.args.scale _ _ f p c.if-width-le-SIGNIFICAND_BITS.true c.requires c.room-up.ensures in
     record { scale = omega arith; bits = omega (arith, t) }
 
-pub returns-then-width-le24 : goal.returns-then-width-le24
-returns-then-width-le24 c =
+pub returns-then-width-le-SIGNIFICAND_BITS : goal.returns-then-width-le-SIGNIFICAND_BITS
+returns-then-width-le-SIGNIFICAND_BITS c =
     let f = wide c.args.sum c.ranges.sum.fits in
     let p : 0 < c.args.sum = omega arith in
-    up_exact _ _ _ _ f p c.if-width-le24.true c.requires c.room-up.ensures ∙ ap units (omega arith)
+    up_exact _ _ _ _ f p c.if-width-le-SIGNIFICAND_BITS.true c.requires c.room-up.ensures ∙ ap units (omega arith)
 
-pub overflow_cast-kept-else-width-le24 : goal.overflow_cast-kept-else-width-le24
-overflow_cast-kept-else-width-le24 c =
+pub overflow_cast-kept-else-width-le-SIGNIFICAND_BITS : goal.overflow_cast-kept-else-width-le-SIGNIFICAND_BITS
+overflow_cast-kept-else-width-le-SIGNIFICAND_BITS c =
     let f = wide c.args.sum c.ranges.sum.fits in
     let p : 0 < c.args.sum = omega arith in
-    omega (arith, down_kept _ _ _ f p c.if-width-le24.false c.requires)
+    omega (arith, down_kept _ _ _ f p c.if-width-le-SIGNIFICAND_BITS.false c.requires)
 
-pub magnitude_of-requires-else-width-le24 : goal.magnitude_of-requires-else-width-le24
-magnitude_of-requires-else-width-le24 c =
+pub magnitude_of-requires-else-width-le-SIGNIFICAND_BITS : goal.magnitude_of-requires-else-width-le-SIGNIFICAND_BITS
+magnitude_of-requires-else-width-le-SIGNIFICAND_BITS c =
     let f = wide c.args.sum c.ranges.sum.fits in
     let p : 0 < c.args.sum = omega arith in
-    record { scale = omega (arith, f.most); bits = down_kept _ _ _ f p c.if-width-le24.false c.requires }
+    record { scale = omega (arith, f.most); bits = down_kept _ _ _ f p c.if-width-le-SIGNIFICAND_BITS.false c.requires }
 
-pub returns-else-width-le24 : goal.returns-else-width-le24
-returns-else-width-le24 c =
+pub returns-else-width-le-SIGNIFICAND_BITS : goal.returns-else-width-le-SIGNIFICAND_BITS
+returns-else-width-le-SIGNIFICAND_BITS c =
     let f = wide c.args.sum c.ranges.sum.fits in
     let p : 0 < c.args.sum = omega arith in
-    let d = simp (c.shifted-else-width-le24.ensures, c.shifted-else-width-le24-2.ensures) at c.rest_of.ensures in
-    subst (λ (t : ℕ). Lies (c.args.sum * 2 ^ c.args.scale) t c.rest_of.result) (sym c.magnitude_of-else-width-le24.ensures)
-    (down_lies _ _ _ f p c.if-width-le24.false c.requires c.rest_of.result d)
+    let d = simp (c.shifted-else-width-le-SIGNIFICAND_BITS.ensures, c.shifted-else-width-le-SIGNIFICAND_BITS-2.ensures) at c.rest_of.ensures in
+    subst (λ (t : ℕ). Lies (c.args.sum * 2 ^ c.args.scale) t c.rest_of.result) (sym c.magnitude_of-else-width-le-SIGNIFICAND_BITS.ensures)
+    (down_lies _ _ _ f p c.if-width-le-SIGNIFICAND_BITS.false c.requires c.rest_of.result d)
