@@ -11,16 +11,16 @@ pub returns-in-Sum : goal.returns-in-Sum
 returns-in-Sum c =
     let r = rank_rounds _ _ c.add.ensures in
     record {
-      least = c.span.ensures.least ∙ least_is c.args.kind Sum c.args.modes c.args.x c.args.y _ c.in-Sum.is r;
-      greatest = c.span.ensures.greatest ∙ greatest_is c.args.kind Sum c.args.modes c.args.x c.args.y _ c.in-Sum.is r;
+      least = c.span.ensures.least ∙ least_is c.args.operation.kind Sum c.args.operation.modes c.args.x c.args.y _ c.in-Sum.is r;
+      greatest = c.span.ensures.greatest ∙ greatest_is c.args.operation.kind Sum c.args.operation.modes c.args.x c.args.y _ c.in-Sum.is r;
     }
 
 pub returns-in-Difference : goal.returns-in-Difference
 returns-in-Difference c =
     let r = rank_rounds _ _ c.sub.ensures in
     record {
-      least = c.span-in-Difference.ensures.least ∙ least_is c.args.kind Difference c.args.modes c.args.x c.args.y _ c.in-Difference.is r;
-      greatest = c.span-in-Difference.ensures.greatest ∙ greatest_is c.args.kind Difference c.args.modes c.args.x c.args.y _ c.in-Difference.is r;
+      least = c.span-in-Difference.ensures.least ∙ least_is c.args.operation.kind Difference c.args.operation.modes c.args.x c.args.y _ c.in-Difference.is r;
+      greatest = c.span-in-Difference.ensures.greatest ∙ greatest_is c.args.operation.kind Difference c.args.operation.modes c.args.x c.args.y _ c.in-Difference.is r;
     }
 
 pub returns-in-Peak : goal.returns-in-Peak
@@ -30,6 +30,6 @@ returns-in-Peak c =
     let v : SFits w32 c.rank-in-Peak.result = search rules in
     let e : c.max-larger.result ≡ int_max c.args.x c.args.y = rw (← c.rank.ensures, ← c.rank-in-Peak.ensures) (simp to_z-of_z at c.max-larger.ensures.value) in
     record {
-      least = to_z-of_z w32 c.max-larger.result m ∙ e ∙ peak_least c.args.kind c.args.modes c.args.x c.args.y c.in-Peak.is;
-      greatest = to_z-of_z w32 c.max-larger.result m ∙ e ∙ peak_greatest c.args.kind c.args.modes c.args.x c.args.y c.in-Peak.is;
+      least = to_z-of_z w32 c.max-larger.result m ∙ e ∙ peak_least c.args.operation.kind c.args.operation.modes c.args.x c.args.y c.in-Peak.is;
+      greatest = to_z-of_z w32 c.max-larger.result m ∙ e ∙ peak_greatest c.args.operation.kind c.args.operation.modes c.args.x c.args.y c.in-Peak.is;
     }
