@@ -18,7 +18,7 @@ after_more n a = ap (settling a.table) (omega arith)
 
 module _ (m : Meaning) where
   abbrev pub next : Table → Table
-  next t = reacted m t.state Step 0 t
+  next t = reacted m t.state Step t
 
   pub settled_rest : (b : ℕ) (t : Table) → at_rest t.state ≡ true → settled m b t ≡ settling t 0
   settled_rest zero t h = refl

@@ -1,12 +1,13 @@
-ghost use Rattle.std.specs.Prelude.{◌≡◌, ℕ, ◌<◌, ℤ};
+ghost use Rattle.std.specs.Prelude.{◌≡◌, ℕ, ℤ};
 ghost use Rattle.catalogue.specs.Refusals.{numbered};
 ghost use Rattle.sheet.specs.declared.lines.Line.{Line};
-ghost use Rattle.sheet.specs.Calls.{Partnered, Steps, bad_budget, both_read, done, ended_in, enter_answer, enter_asked, enter_table, in_patterns, is_settled, limit_asked, limit_table, look_answer, named_partner, no_line, outcome_number, partner_asked, pattern_or_none, run_answer, run_asked, settle_answer, settle_asked, settle_table, shown, strike_asked, strike_table};
+ghost use Rattle.sheet.specs.Calls.{NamesLine, Partnered, Steps, bad_budget, both_read, done, ended_in, enter_answer, enter_asked, enter_table, in_patterns, is_settled, limit_asked, limit_table, limits_read, look_answer, named_partner, outcome_number, partner_asked, pattern_or_none, run_answer, run_asked, settle_answer, settle_asked, settle_table, shown, strike_asked, strike_table};
 ghost use Rattle.sheet.specs.Places.{has};
 ghost use Rattle.sheet.specs.Rules.{new_table, settled, table_of};
 
 use crate::lines::CheckedLine;
-use crate::places::Places;
+use crate::places::{Place, Places};
+use crate::registers::Register;
 use crate::sheet::{Look, Sheet};
 use crate::table::{Outcome, Row, State, Table};
 use catalogue::interface::Catalogue;
@@ -52,12 +53,11 @@ impl Table {
         }
     }
 
-    /// Whether a line stands at a place, among those that there are.
-    fn is_taken(&self, place: u32) -> bool
-        requires { place < 64 }
+    /// Whether a line stands at a place.
+    fn is_taken(&self, place: Place) -> bool
         ensures { result ≡ has self.now.standing place }
     {
-        self.standing.has(place as u8)
+        self.standing.has(place)
     }
 }
 
@@ -71,13 +71,10 @@ impl<C: Catalogue> Sheet<C> {
         Sheet { catalogue, table }
     }
 
-    /// The limits that a call of limit asks for, or why it is declined.
-    fn limits(&self, register: u32, low: u32, high: u32) -> Result<Range, Refusal>
-        ensures { numbered result ≡ limit_asked (C.meaning self.now.catalogue) register low high }
+    /// The range from one pattern to another, or why it is no range of readings.
+    fn limits(&self, low: u32, high: u32) -> Result<Range, Refusal>
+        ensures { numbered result ≡ limits_read ((C.meaning self.now.catalogue).reads low) ((C.meaning self.now.catalogue).reads high) }
     {
-        if register > 31 {
-            return Err(Refusal::NoSuchRegister);
-        }
         let low = self.catalogue.rank(low)?;
         let high = self.catalogue.rank(high)?;
         if high < low {
@@ -92,8 +89,9 @@ impl<C: Catalogue> Sheet<C> {
         ensures table { self.new.table ≡ limit_table (C.meaning self.old.catalogue) register (limit_asked (C.meaning self.old.catalogue) register low high) self.old.table }
         ensures catalogue { self.new.catalogue ≡ self.old.catalogue }
     {
-        let limits = self.limits(register, low, high)?;
-        self.table.limit(&self.catalogue, register as u8, limits);
+        let register = Register::try_from(register)?;
+        let limits = self.limits(low, high)?;
+        self.table.limit(&self.catalogue, register, limits);
         Ok(())
     }
 
@@ -103,21 +101,27 @@ impl<C: Catalogue> Sheet<C> {
         ensures table { self.new.table ≡ enter_table (C.meaning self.old.catalogue) place line self.old.table }
         ensures catalogue { self.new.catalogue ≡ self.old.catalogue }
     {
-        if place > 63 {
-            return Err((Refusal::NoLineThere, line));
-        }
+        let place = match Place::try_from(place) {
+            Ok(place) => place,
+            Err(refusal) => return Err((refusal, line)),
+        };
         if self.table.is_taken(place) {
             return Err((Refusal::PlaceTaken, line));
         }
-        self.table.enter(&self.catalogue, place as u8, line);
+        self.table.enter(&self.catalogue, place, line);
         Ok(())
     }
 
-    /// Whether no line stands at a place, or there is no such place.
-    fn has_no_line(&self, place: u32) -> bool
-        ensures { result ≡ no_line place self.now.table }
+    /// The place that a number names, if a line stands there.
+    fn place_of_line(&self, number: u32) -> Result<Place, Refusal>
+        ensures { NamesLine number self.now.table result }
     {
-        place > 63 || !self.table.standing.has(place as u8)
+        let place = Place::try_from(number)?;
+        if self.table.standing.has(place) {
+            Ok(place)
+        } else {
+            Err(Refusal::NoLineThere)
+        }
     }
 
     /// Removes the line at a place; all ranges return to the limits, and the remaining lines are due.
@@ -126,10 +130,8 @@ impl<C: Catalogue> Sheet<C> {
         ensures table { self.new.table ≡ strike_table (C.meaning self.old.catalogue) place self.old.table }
         ensures catalogue { self.new.catalogue ≡ self.old.catalogue }
     {
-        if self.has_no_line(place) {
-            return Err(Refusal::NoLineThere);
-        }
-        self.table.strike(&self.catalogue, place as u8);
+        let place = self.place_of_line(place)?;
+        self.table.strike(&self.catalogue, place);
         Ok(())
     }
 
@@ -145,7 +147,7 @@ impl<C: Catalogue> Sheet<C> {
         ensures { result ≡ pattern_or_none (C.meaning self.now.catalogue) (named_partner (C.meaning self.now.catalogue) checked.now.line (x, z) self.now.table) }
     {
         let line = checked.line;
-        let y = self.table.ranges[line.y as usize];
+        let y = self.table.ranges[line.y.index()];
         match self.catalogue.partner(line.kind, line.modes, x, z, y) {
             Some(rank) => Some(self.catalogue.pattern(rank)),
             None => None,
@@ -156,10 +158,8 @@ impl<C: Catalogue> Sheet<C> {
     fn named_partner(&self, place: u32, x: u32, z: u32) -> Result<Option<u32>, Refusal>
         ensures { numbered result ≡ partner_asked (C.meaning self.now.catalogue) place x z self.now.table }
     {
-        if self.has_no_line(place) {
-            return Err(Refusal::NoLineThere);
-        }
-        let Ok(line) = self.table.rows[place as usize].drawn().check() else {
+        let place = self.place_of_line(place)?;
+        let Ok(line) = self.table.rows[place.index()].drawn().check() else {
             return Err(Refusal::NoLineThere);
         };
         let (x, z) = self.ranks(x, z)?;
@@ -216,10 +216,8 @@ impl<C: Catalogue> Look<'_, C> {
     pub fn range(&self, register: u32) -> Result<Range, Refusal>
         ensures { numbered result ≡ shown register self.now.sheet.now.table }
     {
-        if register > 31 {
-            return Err(Refusal::NoSuchRegister);
-        }
-        Ok(self.sheet.table.ranges[register as usize])
+        let register = Register::try_from(register)?;
+        Ok(self.sheet.table.ranges[register.index()])
     }
 
     /// A register's range by the patterns of its low and its high end.

@@ -2,6 +2,7 @@ ghost use Rattle.std.specs.Prelude.{◌≡◌};
 ghost use Rattle.sheet.specs.Lines.{check_answer, checked, drawn_of, kind_number, kind_of, row_of};
 
 use crate::lines::{CheckedLine, DrawnLine, Line};
+use crate::registers::Register;
 use crate::table::Row;
 use catalogue::types::{Kind, Modes, Refusal};
 
@@ -39,9 +40,6 @@ impl DrawnLine {
         if self.modes == 0 || self.modes > 15 {
             return Err(Refusal::NoSuchModes);
         }
-        if self.x > 31 || self.y > 31 || self.z > 31 {
-            return Err(Refusal::NoSuchRegister);
-        }
         let modes = Modes {
             bits: self.modes as u8,
         };
@@ -49,9 +47,9 @@ impl DrawnLine {
             line: Line {
                 kind,
                 modes,
-                x: self.x as u8,
-                y: self.y as u8,
-                z: self.z as u8,
+                x: Register::try_from(self.x)?,
+                y: Register::try_from(self.y)?,
+                z: Register::try_from(self.z)?,
             },
         })
     }
@@ -65,9 +63,9 @@ impl Line {
         Row {
             kind: kind_number(self.kind),
             modes: self.modes.bits,
-            x: self.x,
-            y: self.y,
-            z: self.z,
+            x: u8::from(self.x),
+            y: u8::from(self.y),
+            z: u8::from(self.z),
         }
     }
 }

@@ -3,6 +3,7 @@
 mod checks;
 pub mod lines;
 pub mod places;
+pub mod registers;
 pub mod sheet;
 pub mod table;
 
@@ -11,4 +12,3 @@ pub use crate::checks::kind_number;
 mod calls;
 mod events;
 mod rules;
-mod sets;

@@ -1,9 +1,10 @@
-ghost use Rattle.std.specs.Prelude.{◌≡◌, ◌<◌, true, if◌then◌else◌, Some, None};
+ghost use Rattle.std.specs.Prelude.{◌≡◌, true, if◌then◌else◌, Some, None};
 ghost use Rattle.catalogue.specs.Ranges.{meet};
 ghost use Rattle.sheet.specs.Rules.{absorbed, changed, cut as Cut, cut_to_limits, empty, given as Given, inside, made_due, narrowed_by, or_void, rested, returned, smaller, step as Stepped, voided};
 
 use crate::lines::{CheckedLine, Line};
-use crate::places::Places;
+use crate::places::{Place, Places};
+use crate::registers::Register;
 use crate::table::{State, Table};
 use catalogue::interface::Catalogue;
 use catalogue::types::{Range, Triple};
@@ -62,21 +63,19 @@ impl Table {
     }
 
     /// A register's range becomes another, and the lines that name the register become due.
-    fn change(&mut self, register: u8, new: Range)
-        requires { register < 32 }
+    fn change(&mut self, register: Register, new: Range)
         ensures { self.new ≡ changed register new self.old }
     {
-        self.ranges[register as usize] = new;
-        self.due = self.due.union(self.naming[register as usize]);
+        self.ranges[register.index()] = new;
+        self.due = self.due.union(self.naming[register.index()]);
     }
 
     /// Cuts a register's range to what it has in common with another; false where that is nothing.
-    fn cut(&mut self, register: u8, by: Range) -> bool
-        requires { register < 32 }
+    fn cut(&mut self, register: Register, by: Range) -> bool
         ensures void { voided self.new ≡ voided self.old }
         ensures after { Cut register by self.old ≡ (if result then Some self.new else None) }
     {
-        let old = self.ranges[register as usize];
+        let old = self.ranges[register.index()];
         let new = old.meet(by);
         if is_empty(new) {
             return false;
@@ -88,11 +87,10 @@ impl Table {
     }
 
     /// Cuts a register's range to its limits; the table then rests, is open or is void.
-    pub(crate) fn cut_to_limits(&mut self, register: u8)
-        requires { register < 32 }
+    pub(crate) fn cut_to_limits(&mut self, register: Register)
         ensures { self.new ≡ cut_to_limits register self.old }
     {
-        let limits = self.limits[register as usize];
+        let limits = self.limits[register.index()];
         if self.cut(register, limits) {
             self.rest();
         } else {
@@ -101,8 +99,7 @@ impl Table {
     }
 
     /// The line at a place is due.
-    pub(crate) fn make_due(&mut self, place: u8)
-        requires { place < 64 }
+    pub(crate) fn make_due(&mut self, place: Place)
         ensures { self.new ≡ made_due place self.old }
     {
         self.due = self.due.with(place);
@@ -110,31 +107,28 @@ impl Table {
     }
 
     /// Cuts each register of a line to its result; false where one of them is left with nothing.
-    fn absorb(&mut self, line: Line, results: Triple) -> bool
-        requires { (line.x < 32) × (line.y < 32) × (line.z < 32) }
+    fn absorb(&mut self, line: &Line, results: Triple) -> bool
         ensures void { voided self.new ≡ voided self.old }
-        ensures after { absorbed line (Some results) self.old ≡ (if result then Some self.new else None) }
+        ensures after { absorbed line.now (Some results) self.old ≡ (if result then Some self.new else None) }
     {
         self.cut(line.x, results.x) && self.cut(line.y, results.y) && self.cut(line.z, results.z)
     }
 
     /// The ranges of a line's registers.
-    fn given(&self, line: Line) -> Triple
-        requires { (line.x < 32) × (line.y < 32) × (line.z < 32) }
-        ensures { result ≡ Given line self.now }
+    fn given(&self, line: &Line) -> Triple
+        ensures { result ≡ Given line.now self.now }
     {
         Triple {
-            x: self.ranges[line.x as usize],
-            y: self.ranges[line.y as usize],
-            z: self.ranges[line.z as usize],
+            x: self.ranges[line.x.index()],
+            y: self.ranges[line.y.index()],
+            z: self.ranges[line.z.index()],
         }
     }
 
     /// Narrows a line once, from the ranges as they are; false where that leaves nothing.
-    fn narrow<C: Catalogue>(&mut self, catalogue: &C, line: Line) -> bool
-        requires { (line.x < 32) × (line.y < 32) × (line.z < 32) }
+    fn narrow<C: Catalogue>(&mut self, catalogue: &C, line: &Line) -> bool
         ensures void { voided self.new ≡ voided self.old }
-        ensures after { narrowed_by (C.meaning catalogue.now) line self.old ≡ (if result then Some self.new else None) }
+        ensures after { narrowed_by (C.meaning catalogue.now) line.now self.old ≡ (if result then Some self.new else None) }
     {
         match catalogue.narrow(line.kind, line.modes, self.given(line)) {
             Some(results) => self.absorb(line, results),
@@ -146,7 +140,7 @@ impl Table {
     fn step_line<C: Catalogue>(&mut self, catalogue: &C, checked: &CheckedLine)
         ensures { self.new ≡ or_void self.old (narrowed_by (C.meaning catalogue.now) checked.now.line self.old) }
     {
-        if self.narrow(catalogue, checked.line) {
+        if self.narrow(catalogue, &checked.line) {
             self.rest();
         } else {
             self.make_void();
@@ -161,7 +155,7 @@ impl Table {
             return;
         };
         self.due = self.due.without(place);
-        match self.rows[place as usize].drawn().check() {
+        match self.rows[place.index()].drawn().check() {
             Ok(line) => self.step_line(catalogue, &line),
             Err(_) => self.rest(),
         }

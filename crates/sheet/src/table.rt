@@ -1,4 +1,5 @@
-use crate::places::Places;
+use crate::places::{Place, Places};
+use crate::registers::Register;
 use catalogue::types::Range;
 
 /// The line at a place, as plain numbers.
@@ -34,14 +35,14 @@ pub struct Table {
 }
 
 /// What happens to a table, at a register, at a place or to the whole of it.
-#[derive(Clone, Copy)]
+#[derive(Clone, Copy, Debug, PartialEq, Eq)]
 pub enum Event {
     /// The new limits of a register lie inside its old ones.
-    Tightened,
+    Tightened(Register),
     /// The new limits of a register do not lie inside its old ones.
     Loosened,
     /// A line was put at a place.
-    Entered,
+    Entered(Place),
     /// The line at a place was removed.
     Struck,
     /// A step is to be made.
