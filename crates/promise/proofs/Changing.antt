@@ -110,18 +110,18 @@ module _ (m : Meaning) (old new : Ranges) (at : Drawn) (t : Table) (sound : Soun
           quiet = cut_on.quiet;
         }))
 
-    tight : (s : State) → t.state ≡ s → Sound m new at (reacted m s Tightened r reset)
+    tight : (s : State) → t.state ≡ s → Sound m new at (reacted m s (Tightened r) reset)
     tight Settled e = tight_live (ap is_void e)
     tight Open e = tight_live (ap is_void e)
     tight Void e = tight_void (ap is_void e)
 
-  loose : (s : State) → Sound m new at (reacted m s Loosened r reset)
+  loose : (s : State) → Sound m new at (reacted m s Loosened reset)
   loose Settled = returned_sound m new at reset reset_limited reset_shape
   loose Open = returned_sound m new at reset reset_limited reset_shape
   loose Void = returned_sound m new at reset reset_limited reset_shape
 
   pub limited_sound : Sound m new at (limited m r b t)
-  limited_sound = cond_both (inside b (limits_at t r)) Tightened Loosened (λ e. Sound m new at (reacted m t.state e r reset))
+  limited_sound = cond_both (inside b (limits_at t r)) (Tightened r) Loosened (λ e. Sound m new at (reacted m t.state e reset))
       (λ h. tight (subst (Within b) (sound.limited.same r lt) (inside_true b (limits_at t r) h)) t.state refl)
       (λ _. loose t.state)
 
@@ -181,7 +181,7 @@ module _ (m : Meaning) (limits-to : Ranges) (at now : Drawn) (t : Table) (sound 
         void = λ h. absurd (both_ways false refl h);
       }
 
-  enter_as : (s : State) → t.state ≡ s → Sound m limits-to now (reacted m s Entered n more)
+  enter_as : (s : State) → t.state ≡ s → Sound m limits-to now (reacted m s (Entered n) more)
   enter_as Settled e = enter_live (ap is_void e)
   enter_as Open e = enter_live (ap is_void e)
   enter_as Void e = enter_void (ap is_void e)
@@ -191,13 +191,13 @@ module _ (m : Meaning) (limits-to : Ranges) (at now : Drawn) (t : Table) (sound 
 
 -- ---- a line struck
 module _ (m : Meaning) (limits-to : Ranges) (at now : Drawn) (t : Table) (sound : Sound m limits-to at t) (n : ℕ) (l : Line) (here : at n ≡ Some l) (own : now n ≡ None) (off : (k : ℕ) → (k ≡ n → ⊥) → now k ≡ at k) where
-  strike_as : (s : State) → Sound m limits-to now (reacted m s Struck n (removed n t))
+  strike_as : (s : State) → Sound m limits-to now (reacted m s Struck (removed n t))
   strike_as s = by s (returned_sound m limits-to now (removed n t) (limited_same m limits-to t (removed n t) (removed_limits n l t stands) sound.limited) (removed_shape n l t stands at now sound.shape own off))
     where
       stands : Stands t n l
       stands = sound.shape.there n l here
 
-      by : (s : State) → Sound m limits-to now (returned (removed n t)) → Sound m limits-to now (reacted m s Struck n (removed n t))
+      by : (s : State) → Sound m limits-to now (returned (removed n t)) → Sound m limits-to now (reacted m s Struck (removed n t))
       by Settled h = h
       by Open h = h
       by Void h = h

@@ -76,27 +76,27 @@ module _ (m : Meaning) where
   step_at_lines None t = same_lines t
   step_at_lines (Some n) t = let s = step_line_lines (checked (drawn_of (row_at t n))) (with_due (without n t.due) t) in record { rows = s.rows; standing = s.standing; naming = s.naming }
 
-  pub reacted_lines : (s : State) (e : Event) (at : ℕ) (t : Table) → LinesStay (reacted m s e at t) t
-  reacted_lines Void Tightened at t = same_lines t
-  reacted_lines Settled Tightened at t = or_void_lines t _ (cut_lines at (limits_at t at) t)
-  reacted_lines Open Tightened at t = or_void_lines t _ (cut_lines at (limits_at t at) t)
-  reacted_lines Void Loosened at t = record { rows = refl; standing = refl; naming = refl }
-  reacted_lines Settled Loosened at t = record { rows = refl; standing = refl; naming = refl }
-  reacted_lines Open Loosened at t = record { rows = refl; standing = refl; naming = refl }
-  reacted_lines Void Entered at t = same_lines t
-  reacted_lines Settled Entered at t = record { rows = refl; standing = refl; naming = refl }
-  reacted_lines Open Entered at t = record { rows = refl; standing = refl; naming = refl }
-  reacted_lines Void Struck at t = record { rows = refl; standing = refl; naming = refl }
-  reacted_lines Settled Struck at t = record { rows = refl; standing = refl; naming = refl }
-  reacted_lines Open Struck at t = record { rows = refl; standing = refl; naming = refl }
-  reacted_lines Void Step at t = same_lines t
-  reacted_lines Settled Step at t = same_lines t
-  reacted_lines Open Step at t = step_at_lines (lowest t.due) t
+  pub reacted_lines : (s : State) (e : Event) (t : Table) → LinesStay (reacted m s e t) t
+  reacted_lines Void (Tightened r) t = same_lines t
+  reacted_lines Settled (Tightened r) t = or_void_lines t _ (cut_lines r (limits_at t r) t)
+  reacted_lines Open (Tightened r) t = or_void_lines t _ (cut_lines r (limits_at t r) t)
+  reacted_lines Void Loosened t = record { rows = refl; standing = refl; naming = refl }
+  reacted_lines Settled Loosened t = record { rows = refl; standing = refl; naming = refl }
+  reacted_lines Open Loosened t = record { rows = refl; standing = refl; naming = refl }
+  reacted_lines Void (Entered n) t = same_lines t
+  reacted_lines Settled (Entered n) t = record { rows = refl; standing = refl; naming = refl }
+  reacted_lines Open (Entered n) t = record { rows = refl; standing = refl; naming = refl }
+  reacted_lines Void Struck t = record { rows = refl; standing = refl; naming = refl }
+  reacted_lines Settled Struck t = record { rows = refl; standing = refl; naming = refl }
+  reacted_lines Open Struck t = record { rows = refl; standing = refl; naming = refl }
+  reacted_lines Void Step t = same_lines t
+  reacted_lines Settled Step t = same_lines t
+  reacted_lines Open Step t = step_at_lines (lowest t.due) t
 
   pub settled_lines : (b : ℕ) (t : Table) → LinesStay (settled m b t).table t
   settled_lines zero t = same_lines t
-  settled_lines (suc b) t = cond_both (at_rest t.state) record { table = t; steps = 0 } (after_steps 1 (settled m b (reacted m t.state Step 0 t))) (λ a. LinesStay a.table t)
-      (λ _. same_lines t) (λ _. lines_then _ _ t (settled_lines b _) (reacted_lines t.state Step 0 t))
+  settled_lines (suc b) t = cond_both (at_rest t.state) record { table = t; steps = 0 } (after_steps 1 (settled m b (reacted m t.state Step t))) (λ a. LinesStay a.table t)
+      (λ _. same_lines t) (λ _. lines_then _ _ t (settled_lines b _) (reacted_lines t.state Step t))
 
 -- ---- a new table, and a line that is put at a free place
 pub get_or_same : (k i : ℕ) → get_or (replicate k none) i none ≡ none
@@ -210,11 +210,11 @@ placed_indexed n l t lt reg free i =
 -- ---- the calls
 module _ (m : Meaning) where
   pub limited_indexed : (r : ℕ) (b : Range) (t u : Table) → u ≡ limited m r b t → Indexed t → Indexed u
-  limited_indexed r b t u e i = subst Indexed (sym e) (index_same _ (with_limits (set t.limits r b) t) (reacted_lines m t.state (limit_event r b t) r (with_limits (set t.limits r b) t))
+  limited_indexed r b t u e i = subst Indexed (sym e) (index_same _ (with_limits (set t.limits r b) t) (reacted_lines m t.state (limit_event r b t) (with_limits (set t.limits r b) t))
       (index_same _ t (record { rows = refl; standing = refl; naming = refl }) i))
 
   pub entered_indexed : (n : ℕ) (l : Line) (t u : Table) → u ≡ entered m n l t → n < 64 → (l.x < 32) × (l.y < 32) × (l.z < 32) → has t.standing n ≡ false → Indexed t → Indexed u
-  entered_indexed n l t u e lt reg free i = subst Indexed (sym e) (index_same _ (placed n l t) (reacted_lines m t.state Entered n (placed n l t)) (placed_indexed n l t lt reg free i))
+  entered_indexed n l t u e lt reg free i = subst Indexed (sym e) (index_same _ (placed n l t) (reacted_lines m t.state (Entered n) (placed n l t)) (placed_indexed n l t lt reg free i))
 
   pub settled_indexed : (b : ℕ) (t u : Table) → u ≡ (settled m b t).table → Indexed t → Indexed u
   settled_indexed b t u e i = subst Indexed (sym e) (index_same _ t (settled_lines m b t) i)

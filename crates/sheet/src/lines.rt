@@ -29,4 +29,8 @@ pub struct CheckedLine {
     pub(crate) line: Line,
     ghost some_mode: { 0 < line.modes.bits },
     ghost no_other_mode: { line.modes.bits < 16 },
+    // A clause sees a register as its number, so what the type says of each is said again here, for those who read clauses.
+    ghost x_exists: { line.x < 32 },
+    ghost y_exists: { line.y < 32 },
+    ghost z_exists: { line.z < 32 },
 }
