@@ -4,6 +4,7 @@ pub mod arithmetic;
 pub mod interface;
 pub mod modes;
 pub mod narrowing;
+mod numbers;
 pub mod partners;
 pub mod ranges;
 pub mod refusals;
