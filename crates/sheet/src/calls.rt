@@ -14,13 +14,15 @@ use catalogue::interface::Catalogue;
 use catalogue::types::{Range, Refusal};
 
 /// How a settle that leaves a state ended.
-fn outcome(state: State) -> Outcome
-    ensures { outcome_number result ≡ ended_in state }
-{
-    match state {
-        State::Settled => Outcome::Settled,
-        State::Open => Outcome::Stopped,
-        State::Void => Outcome::Void,
+impl From<State> for Outcome {
+    ghost from_gives = { λ s o. outcome_number o ≡ ended_in s };
+
+    fn from(state: State) -> Outcome {
+        match state {
+            State::Settled => Outcome::Settled,
+            State::Open => Outcome::Stopped,
+            State::Void => Outcome::Void,
+        }
     }
 }
 
@@ -159,7 +161,7 @@ impl<C: Catalogue> Sheet<C> {
         ensures { numbered result ≡ partner_asked (C.meaning self.now.catalogue) place x z self.now.table }
     {
         let place = self.place_of_line(place)?;
-        let Ok(line) = self.table.rows[place.index()].drawn().check() else {
+        let Ok(line) = self.table.line_at(place) else {
             return Err(Refusal::NoLineThere);
         };
         let (x, z) = self.ranks(x, z)?;
@@ -184,7 +186,7 @@ impl<C: Catalogue> Sheet<C> {
         ensures catalogue { self.new.catalogue ≡ self.old.catalogue }
     {
         let steps = self.table.settle(&self.catalogue, budget);
-        (outcome(self.table.state), steps)
+        (Outcome::from(self.table.state), steps)
     }
 
     /// Steps until rest or until the budget is spent: how it ended, and how many steps were made.

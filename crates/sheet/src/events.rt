@@ -5,7 +5,7 @@ use crate::lines::{CheckedLine, Line};
 use crate::places::Place;
 use crate::registers::Register;
 use crate::rules::lies_inside;
-use crate::table::{Event, State, Table};
+use crate::table::{Event, Row, State, Table};
 use catalogue::interface::Catalogue;
 use catalogue::types::Range;
 
@@ -66,7 +66,7 @@ impl Table {
         ensures { self.new ≡ placed place line self.old }
     {
         let Line { x, y, z, .. } = line;
-        self.rows[place.index()] = line.row();
+        self.rows[place.index()] = Row::from(line);
         self.standing = self.standing.with(place);
         self.name(place, x);
         self.name(place, y);
@@ -102,7 +102,7 @@ impl Table {
         ensures { self.new ≡ removed place self.old }
     {
         self.standing = self.standing.without(place);
-        if let Ok(line) = self.rows[place.index()].drawn().check() {
+        if let Ok(line) = self.line_at(place) {
             self.unname_line(place, &line);
         }
     }

@@ -7,8 +7,6 @@ pub mod registers;
 pub mod sheet;
 pub mod table;
 
-pub use crate::checks::kind_number;
-
 mod calls;
 mod events;
 mod rules;

@@ -155,7 +155,7 @@ impl Table {
             return;
         };
         self.due = self.due.without(place);
-        match self.rows[place.index()].drawn().check() {
+        match self.line_at(place) {
             Ok(line) => self.step_line(catalogue, &line),
             Err(_) => self.rest(),
         }
