@@ -6,6 +6,7 @@ use Rattle.catalogue.specs.Meanings.{Meaning, all_readings}
 use Rattle.catalogue.specs.Ranges.{meet}
 use Rattle.sheet.specs.declared.lines.Line.{Line}
 use Rattle.sheet.specs.declared.places.Places.{Places}
+use Rattle.sheet.specs.declared.table.Empty.{Empty}
 use Rattle.sheet.specs.declared.table.Event.{Event}
 use Rattle.sheet.specs.declared.table.Event.TheVariants.{Tightened, Loosened, Entered, Struck, Step}
 use Rattle.sheet.specs.declared.table.Row.{Row}
@@ -91,6 +92,11 @@ cut_table r b t = cond (smaller (meet (range_at t r) b) (range_at t r)) (changed
 
 abbrev pub cut : ℕ → Range → Table → Option Table
 cut r b t = cond (empty (meet (range_at t r) b)) None (Some (cut_table r b t))
+
+-- what an answer leaves of a table: the table, or nothing
+abbrev pub left : Table → Result (Unit {0}) Empty → Option Table
+left t (Ok x) = Some t
+left t (Err e) = None
 
 -- the table that is left, at rest if nothing is due; or void where nothing is left
 abbrev pub or_void : Table → Option Table → Table

@@ -2,7 +2,6 @@ ghost use Rattle.std.specs.Prelude.{◌≡◌, ℕ, ℤ};
 ghost use Rattle.catalogue.specs.Refusals.{numbered};
 ghost use Rattle.sheet.specs.declared.lines.Line.{Line};
 ghost use Rattle.sheet.specs.Calls.{NamesLine, Partnered, Steps, bad_budget, both_read, done, ended_in, enter_answer, enter_asked, enter_table, in_patterns, is_settled, limit_asked, limit_table, limits_read, look_answer, named_partner, outcome_number, partner_asked, pattern_or_none, run_answer, run_asked, settle_answer, settle_asked, settle_table, shown, strike_asked, strike_table};
-ghost use Rattle.sheet.specs.Places.{has};
 ghost use Rattle.sheet.specs.Rules.{new_table, settled, table_of};
 
 use crate::lines::CheckedLine;
@@ -48,18 +47,11 @@ impl Table {
                 y: 0,
                 z: 0,
             }; 64],
-            standing: Places { bits: 0 },
-            naming: [Places { bits: 0 }; 32],
-            due: Places { bits: 0 },
+            standing: Places::none(),
+            naming: [Places::none(); 32],
+            due: Places::none(),
             state: State::Settled,
         }
-    }
-
-    /// Whether a line stands at a place.
-    fn is_taken(&self, place: Place) -> bool
-        ensures { result ≡ has self.now.standing place }
-    {
-        self.standing.has(place)
     }
 }
 
@@ -107,7 +99,7 @@ impl<C: Catalogue> Sheet<C> {
             Ok(place) => place,
             Err(refusal) => return Err((refusal, line)),
         };
-        if self.table.is_taken(place) {
+        if self.table.standing.has(place) {
             return Err((Refusal::PlaceTaken, line));
         }
         self.table.enter(&self.catalogue, place, line);
@@ -119,11 +111,8 @@ impl<C: Catalogue> Sheet<C> {
         ensures { NamesLine number self.now.table result }
     {
         let place = Place::try_from(number)?;
-        if self.table.standing.has(place) {
-            Ok(place)
-        } else {
-            Err(Refusal::NoLineThere)
-        }
+        let stands = self.table.standing.has(place);
+        stands.then_some(place).ok_or(Refusal::NoLineThere)
     }
 
     /// Removes the line at a place; all ranges return to the limits, and the remaining lines are due.
@@ -150,10 +139,9 @@ impl<C: Catalogue> Sheet<C> {
     {
         let line = checked.line;
         let y = self.table.ranges[line.y.index()];
-        match self.catalogue.partner(line.kind, line.modes, x, z, y) {
-            Some(rank) => Some(self.catalogue.pattern(rank)),
-            None => None,
-        }
+        self.catalogue
+            .partner(line.kind, line.modes, x, z, y)
+            .map(|rank| self.catalogue.pattern(rank))
     }
 
     /// The partner that the catalogue names, or why the call is declined.
@@ -161,13 +149,9 @@ impl<C: Catalogue> Sheet<C> {
         ensures { numbered result ≡ partner_asked (C.meaning self.now.catalogue) place x z self.now.table }
     {
         let place = self.place_of_line(place)?;
-        let Ok(line) = self.table.line_at(place) else {
-            return Err(Refusal::NoLineThere);
-        };
+        let line = self.table.line_at(place).map_err(|_| Refusal::NoLineThere)?;
         let (x, z) = self.ranks(x, z)?;
-        if let State::Void = self.table.state {
-            return Err(Refusal::SheetVoid);
-        }
+        let _look = self.look()?;
         Ok(self.partner_of(&line, x, z))
     }
 
@@ -235,9 +219,6 @@ impl<C: Catalogue> Look<'_, C> {
     pub fn is_settled(&self) -> bool
         ensures { result ≡ is_settled self.now.sheet.now.table.state }
     {
-        match self.sheet.table.state {
-            State::Settled => true,
-            State::Open | State::Void => false,
-        }
+        matches!(self.sheet.table.state, State::Settled)
     }
 }

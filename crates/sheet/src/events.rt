@@ -9,13 +9,11 @@ use crate::table::{Event, Row, State, Table};
 use catalogue::interface::Catalogue;
 use catalogue::types::Range;
 
-/// Whether a state is at rest.
-fn is_at_rest(state: State) -> bool
-    ensures { result ≡ at_rest state }
-{
-    match state {
-        State::Settled | State::Void => true,
-        State::Open => false,
+impl State {
+    fn is_at_rest(self) -> bool
+        ensures { result ≡ at_rest self }
+    {
+        matches!(self, State::Settled | State::Void)
     }
 }
 
@@ -27,7 +25,9 @@ impl Table {
         match (self.state, &event) {
             (State::Void, Event::Tightened(_) | Event::Entered(_) | Event::Step) => {}
             (State::Settled, Event::Step) => {}
-            (State::Settled | State::Open, Event::Tightened(register)) => self.cut_to_limits(*register),
+            (State::Settled | State::Open, Event::Tightened(register)) => self.cut_to_limits(
+                *register,
+            ),
             (State::Settled | State::Open, Event::Entered(place)) => self.make_due(*place),
             (State::Open, Event::Step) => self.step(catalogue),
             (_, Event::Loosened | Event::Struck) => self.return_to_limits(),
@@ -120,7 +120,7 @@ impl Table {
         ensures { settled (C.meaning catalogue.now) budget self.old ≡ record { table = self.new; steps = result } }
     {
         for made in 0..budget {
-            if is_at_rest(self.state) {
+            if self.state.is_at_rest() {
                 return made;
             }
             self.react(catalogue, Event::Step);

@@ -1,11 +1,11 @@
-ghost use Rattle.std.specs.Prelude.{◌≡◌, true, if◌then◌else◌, Some, None};
+ghost use Rattle.std.specs.Prelude.{◌≡◌, Some};
 ghost use Rattle.catalogue.specs.Ranges.{meet};
-ghost use Rattle.sheet.specs.Rules.{absorbed, changed, cut as Cut, cut_to_limits, empty, given as Given, inside, made_due, narrowed_by, or_void, rested, returned, smaller, step as Stepped, voided};
+ghost use Rattle.sheet.specs.Rules.{absorbed, changed, cut as Cut, cut_to_limits, empty, given as Given, inside, left, made_due, narrowed_by, or_void, rested, returned, smaller, step as Stepped, voided};
 
 use crate::lines::{CheckedLine, Line};
 use crate::places::{Place, Places};
 use crate::registers::Register;
-use crate::table::{State, Table};
+use crate::table::{Empty, State, Table};
 use catalogue::interface::Catalogue;
 use catalogue::types::{Range, Triple};
 
@@ -70,20 +70,20 @@ impl Table {
         self.due = self.due.union(self.naming[register.index()]);
     }
 
-    /// Cuts a register's range to what it has in common with another; false where that is nothing.
-    fn cut(&mut self, register: Register, by: Range) -> bool
+    /// Cuts a register's range to what it has in common with another.
+    fn cut(&mut self, register: Register, by: Range) -> Result<(), Empty>
         ensures void { voided self.new ≡ voided self.old }
-        ensures after { Cut register by self.old ≡ (if result then Some self.new else None) }
+        ensures after { Cut register by self.old ≡ left self.new result }
     {
         let old = self.ranges[register.index()];
         let new = old.meet(by);
         if is_empty(new) {
-            return false;
+            return Err(Empty);
         }
         if is_smaller(new, old) {
             self.change(register, new);
         }
-        true
+        Ok(())
     }
 
     /// Cuts a register's range to its limits; the table then rests, is open or is void.
@@ -91,10 +91,9 @@ impl Table {
         ensures { self.new ≡ cut_to_limits register self.old }
     {
         let limits = self.limits[register.index()];
-        if self.cut(register, limits) {
-            self.rest();
-        } else {
-            self.make_void();
+        match self.cut(register, limits) {
+            Ok(()) => self.rest(),
+            Err(Empty) => self.make_void(),
         }
     }
 
@@ -106,12 +105,14 @@ impl Table {
         self.state = State::Open;
     }
 
-    /// Cuts each register of a line to its result; false where one of them is left with nothing.
-    fn absorb(&mut self, line: &Line, results: Triple) -> bool
+    /// Cuts each register of a line to its result.
+    fn absorb(&mut self, line: &Line, results: Triple) -> Result<(), Empty>
         ensures void { voided self.new ≡ voided self.old }
-        ensures after { absorbed line.now (Some results) self.old ≡ (if result then Some self.new else None) }
+        ensures after { absorbed line.now (Some results) self.old ≡ left self.new result }
     {
-        self.cut(line.x, results.x) && self.cut(line.y, results.y) && self.cut(line.z, results.z)
+        self.cut(line.x, results.x)?;
+        self.cut(line.y, results.y)?;
+        self.cut(line.z, results.z)
     }
 
     /// The ranges of a line's registers.
@@ -125,25 +126,24 @@ impl Table {
         }
     }
 
-    /// Narrows a line once, from the ranges as they are; false where that leaves nothing.
-    fn narrow<C: Catalogue>(&mut self, catalogue: &C, line: &Line) -> bool
+    /// Narrows a line once, from the ranges as they are.
+    fn narrow<C: Catalogue>(&mut self, catalogue: &C, line: &Line) -> Result<(), Empty>
         ensures void { voided self.new ≡ voided self.old }
-        ensures after { narrowed_by (C.meaning catalogue.now) line.now self.old ≡ (if result then Some self.new else None) }
+        ensures after { narrowed_by (C.meaning catalogue.now) line.now self.old ≡ left self.new result }
     {
-        match catalogue.narrow(line.kind, line.modes, self.given(line)) {
-            Some(results) => self.absorb(line, results),
-            None => false,
-        }
+        let results = catalogue
+            .narrow(line.kind, line.modes, self.given(line))
+            .ok_or(Empty)?;
+        self.absorb(line, results)
     }
 
     /// Narrows a checked line; the table then rests, is open or is void.
     fn step_line<C: Catalogue>(&mut self, catalogue: &C, checked: &CheckedLine)
         ensures { self.new ≡ or_void self.old (narrowed_by (C.meaning catalogue.now) checked.now.line self.old) }
     {
-        if self.narrow(catalogue, &checked.line) {
-            self.rest();
-        } else {
-            self.make_void();
+        match self.narrow(catalogue, &checked.line) {
+            Ok(()) => self.rest(),
+            Err(Empty) => self.make_void(),
         }
     }
 

@@ -34,6 +34,10 @@ pub struct Table {
     pub(crate) state: State,
 }
 
+/// Nothing is left of a register's range, or of a line.
+#[derive(Clone, Copy, Debug, PartialEq, Eq)]
+pub(crate) struct Empty;
+
 /// What happens to a table, at a register, at a place or to the whole of it.
 #[derive(Clone, Copy, Debug, PartialEq, Eq)]
 pub enum Event {
