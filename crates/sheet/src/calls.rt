@@ -133,17 +133,6 @@ impl<C: Catalogue> Sheet<C> {
         Ok((self.catalogue.rank(x)?, self.catalogue.rank(z)?))
     }
 
-    /// Some y of a line's shown range that makes an allowed triple with x and z, as a pattern.
-    fn partner_of(&self, checked: &CheckedLine, x: i32, z: i32) -> Option<u32>
-        ensures { result ≡ pattern_or_none (C.meaning self.now.catalogue) (named_partner (C.meaning self.now.catalogue) checked.now.line (x, z) self.now.table) }
-    {
-        let line = checked.line;
-        let y = self.table.ranges[line.y.index()];
-        self.catalogue
-            .partner(line.kind, line.modes, x, z, y)
-            .map(|rank| self.catalogue.pattern(rank))
-    }
-
     /// The partner that the catalogue names, or why the call is declined.
     fn named_partner(&self, place: u32, x: u32, z: u32) -> Result<Option<u32>, Refusal>
         ensures { numbered result ≡ partner_asked (C.meaning self.now.catalogue) place x z self.now.table }
@@ -151,8 +140,8 @@ impl<C: Catalogue> Sheet<C> {
         let place = self.place_of_line(place)?;
         let line = self.table.line_at(place).map_err(|_| Refusal::NoLineThere)?;
         let (x, z) = self.ranks(x, z)?;
-        let _look = self.look()?;
-        Ok(self.partner_of(&line, x, z))
+        let look = self.look()?;
+        Ok(look.partner_of(&line, x, z))
     }
 
     /// Some y in the shown range of a line's y that makes an allowed triple with the patterns x and z, or none.
@@ -220,5 +209,17 @@ impl<C: Catalogue> Look<'_, C> {
         ensures { result ≡ is_settled self.now.sheet.now.table.state }
     {
         matches!(self.sheet.table.state, State::Settled)
+    }
+
+    /// Some y of a line's shown range that makes an allowed triple with x and z, as a pattern.
+    fn partner_of(&self, checked: &CheckedLine, x: i32, z: i32) -> Option<u32>
+        ensures { result ≡ pattern_or_none (C.meaning self.now.sheet.now.catalogue) (named_partner (C.meaning self.now.sheet.now.catalogue) checked.now.line (x, z) self.now.sheet.now.table) }
+    {
+        let line = checked.line;
+        let y = self.sheet.table.ranges[line.y.index()];
+        self.sheet
+            .catalogue
+            .partner(line.kind, line.modes, x, z, y)
+            .map(|rank| self.sheet.catalogue.pattern(rank))
     }
 }
