@@ -163,6 +163,7 @@ impl<C: Catalogue> Sheet<C> {
     }
 
     /// Steps until rest or until the budget is spent: how it ended, and how many steps were made.
+    #[tactic(auto, using(crate::proofs::Settles::settled_steps))]
     pub fn settle(&mut self, budget: u32) -> Result<(Outcome, u32), Refusal>
         ensures answer { settle_answer result ≡ settle_asked (C.meaning self.old.catalogue) budget self.old.table }
         ensures table { self.new.table ≡ settle_table (C.meaning self.old.catalogue) budget self.old.table }

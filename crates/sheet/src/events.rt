@@ -116,6 +116,7 @@ impl Table {
     }
 
     /// Steps until rest, or until the budget is spent; answers how many steps were made.
+    #[tactic(auto, using(crate::proofs::Settles::settled_turn))]
     pub(crate) fn settle<C: Catalogue>(&mut self, catalogue: &C, budget: u32) -> u32
         ensures { settled (C.meaning catalogue.now) budget self.old ≡ record { table = self.new; steps = result } }
     {
