@@ -1,5 +1,5 @@
 -- Steps, one after another: what each turn of a settle's loop adds, and what holds of the steps in all.
-use Rattle.std.proofs.Common.{◌≡◌, ℕ, zero, suc, ◌+◌, ◌-◌, ◌<◌, true, false, sym, refl, ap, ◌∙◌, arith}
+use Rattle.std.proofs.Common.{◌≡◌, ℕ, zero, suc, ◌+◌, ◌-◌, ◌<◌, false, sym, refl, ap, ◌∙◌, arith}
 use Rattle.std.proofs.lemmas.Bool.{cond-false, cond_both, both_ways}
 use Rattle.catalogue.specs.Meanings.{Meaning}
 use Rattle.sheet.specs.declared.table.Event.TheVariants.{Step}

@@ -109,6 +109,7 @@ impl Places {
     }
 
     /// The lowest place of the set.
+    #[tactic(auto, using(crate::proofs::PlaceSets::lowest_words))]
     pub(crate) fn lowest(self) -> Option<Place>
         ensures value { result ≡ lowest self }
         ensures words { Lowest self result }
