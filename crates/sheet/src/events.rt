@@ -22,14 +22,13 @@ impl Table {
     fn react<C: Catalogue>(&mut self, catalogue: &C, event: Event)
         ensures { self.new ≡ reacted (C.meaning catalogue.now) self.old.state event self.old }
     {
+        // The event is lent, since the proof reads nothing out of an event that a tuple holds itself.
         match (self.state, &event) {
             (State::Void, Event::Tightened(_) | Event::Entered(_) | Event::Step) => {}
             (State::Settled, Event::Step) => {}
-            (State::Settled | State::Open, Event::Tightened(register)) => self.cut_to_limits(
-                *register,
-            ),
-            (State::Settled | State::Open, Event::Entered(place)) => self.make_due(*place),
             (State::Open, Event::Step) => self.step(catalogue),
+            (_, Event::Tightened(register)) => self.cut_to_limits(*register),
+            (_, Event::Entered(place)) => self.make_due(*place),
             (_, Event::Loosened | Event::Struck) => self.return_to_limits(),
         }
     }
