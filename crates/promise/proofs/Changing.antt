@@ -21,6 +21,7 @@ use Rattle.promise.proofs.Cutting.{shape_same, cut_live, cut_none, cut_within, c
 use Rattle.sheet.proofs.PlaceSets.{with_here, with_other}
 use Rattle.promise.proofs.Placing.{placed_shape, removed_shape, removed_limits}
 use Rattle.promise.proofs.Resting.{rested_sound, voided_sound, returned_sound}
+use Rattle.promise.proofs.Setting.{at_each}
 use Rattle.promise.proofs.Sounds.{Drawn, Fixed, Stands, Shape, Limited, Live, Sound, nowhere}
 use Rattle.promise.proofs.Stepping.{limited_same}
 use Rattle.promise.proofs.Unmoving.{within_then}
@@ -38,12 +39,8 @@ module _ (m : Meaning) (old new : Ranges) (at : Drawn) (t : Table) (sound : Soun
   reset = with_limits (set t.limits r b) t
 
   reset_at : (P : ℕ → Range → Range → Type 0) → P r b b → ((q : ℕ) → (q ≡ r → ⊥) → P q (limits_at t q) (old q)) → (q : ℕ) → P q (limits_at reset q) (new q)
-  reset_at P here other q =
-      let in_list : r < length t.limits = omega (arith, sound.limited.long) in
-      ⊎_elim
-      (λ (e : q ≡ r). subst (λ j. P j (get_or (set t.limits r b) j no_range) (new j)) (sym e) (subst (P r (get_or (set t.limits r b) r no_range)) (sym own) (subst (λ v. P r v b) (sym (get_or-set_same t.limits r b no_range in_list)) here)))
-      (λ (ne : q ≢ r). subst (P q (get_or (set t.limits r b) q no_range)) (sym (off q ne)) (subst (λ v. P q v (old q)) (sym (get_or-set_other t.limits r q b no_range ne)) (other q ne)))
-      (cases_eq q r)
+  reset_at P here other = at_each t.limits r b no_range (omega (arith, sound.limited.long)) (λ q v. P q v (new q))
+      (subst (P r b) (sym own) here) (λ q ne. subst (P q (limits_at t q)) (sym (off q ne)) (other q ne))
 
   reset_limited : Limited m new reset
   reset_limited =
@@ -138,7 +135,7 @@ module _ (m : Meaning) (limits-to : Ranges) (at now : Drawn) (t : Table) (sound 
     proper = c.proper;
     limits = c.limits;
     unmoved = λ k j e. ⊎_elim
-        (λ (f : k ≡ n). let g : at n ≡ Some j = subst (λ q. at q ≡ Some j) f e in let z : ◌≡◌ {A = ℕ} 0 1 = cc in absurd (omega arith))
+        (λ (f : k ≡ n). let g : at n ≡ Some j = subst (λ q. at q ≡ Some j) f e in absurd cc)
         (λ (ne : k ≢ n). c.unmoved k j (off k ne ∙ e))
         (cases_eq k n);
   }

@@ -14,6 +14,7 @@ use Rattle.promise.specs.Promise.{Ranges}
 use Rattle.sheet.specs.Rules.{no_range, no_row, range_at, row_at, naming_at, empty, smaller, changed, cut_table}
 use Rattle.promise.proofs.Indexes.{LinesStay, index_same}
 use Rattle.sheet.proofs.PlaceSets.{union_has}
+use Rattle.promise.proofs.Setting.{at_each}
 use Rattle.promise.proofs.Sounds.{Drawn, Shape, Stands, Live}
 use Rattle.promise.proofs.Unmoving.{Unmoved, unmoved_same, within_then, within_meet, meet_left, meet_right, some_left, proper_from, covers}
 
@@ -44,10 +45,7 @@ module _ (at : Drawn) (t : Table) (shape : Shape at t) (k : ℕ) (l : Line) (her
 -- ---- a register's range replaced
 module _ (r : ℕ) (new : Range) (t : Table) (in_table : r < length t.ranges) where
   pub changed_at : (P : ℕ → Range → Type 0) → P r new → ((q : ℕ) → (q ≡ r → ⊥) → P q (range_at t q)) → (q : ℕ) → P q (range_at (changed r new t) q)
-  changed_at P here off q = ⊎_elim
-      (λ (e : q ≡ r). subst (λ j. P j (get_or (set t.ranges r new) j no_range)) (sym e) (subst (P r) (sym (get_or-set_same t.ranges r new no_range in_table)) here))
-      (λ (ne : q ≢ r). subst (P q) (sym (get_or-set_other t.ranges r q new no_range ne)) (off q ne))
-      (cases_eq q r)
+  changed_at = at_each t.ranges r new no_range in_table
 
 changed_other : (r : ℕ) (new : Range) (t : Table) (q : ℕ) → eqb q r ≡ false → range_at t q ≡ range_at (changed r new t) q
 changed_other r new t q h = let ne : q ≢ r = eqb-false q r h in sym (get_or-set_other t.ranges r q new no_range ne)

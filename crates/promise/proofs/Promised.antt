@@ -33,7 +33,7 @@ not_void Open h = refl
 not_void Void h = absurd (h refl)
 
 settled_on : {s : State} → s ≡ Settled → s ≡ Void → ⊥
-settled_on {s} e f = let z : ◌≡◌ {A = ℕ} 0 1 = cc in omega arith
+settled_on {s} e f = cc
 
 -- ---- an assignment as a set of ranges of one reading each
 abbrev point : Assignment → Ranges
@@ -193,10 +193,10 @@ module _ (m : Meaning) (laws : Laws m) where
     }
       where
         taken : (j : Line) → line_at (strike n ∷ h) k ≡ Some j → ⊥
-        taken j e = let z : ◌≡◌ {A = ℕ} 0 1 = cc in omega arith
+        taken j e = cc
 
         gone : (j : Line) → line_at (strike n ∷ h) n ≡ Some j → ⊥
-        gone j e = let o = striking_own n (line_at h) in let z : ◌≡◌ {A = ℕ} 0 1 = cc in omega arith
+        gone j e = let o = striking_own n (line_at h) in cc
 
     pub struck_and_entered_anywhere : (bs : List ℕ) → Rests m h → Rests m (settles bs moved) → Alike (after m h) (after m (settles bs moved))
     struck_and_entered_anywhere bs rh rk = same_rest h (settles bs moved) rh rk

@@ -95,7 +95,7 @@ module _ (m : Meaning) (limits-to : Ranges) (at : Drawn) (n : ℕ) (l : Line) (h
 
   -- a line that stays idle is unmoved
   idle_stays : (o : Option Triple) (u : Table) → absorbed l o t ≡ Some u → All o → WithinO (Some (given l t)) o
-  idle_stays None u e w = let z : ◌≡◌ {A = ℕ} 0 1 = cc in absurd (omega arith)
+  idle_stays None u e w = absurd cc
   idle_stays (Some s) u e w = (w.0.0.1, w.0.1, w.1)
 
   module _ (laws : Laws m) (p : Passes l) (on : On t) where

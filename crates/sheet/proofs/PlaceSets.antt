@@ -1,11 +1,11 @@
 -- Sets of places as bits: the lowest place, and which places a changed set has.
-use Rattle.std.proofs.Common.{◌≡◌, ℕ, ◌+◌, ◌/◌, ◌%◌, ◌^◌, ◌<◌, true, false, ◌||◌, eqb, Some, None, sym, refl, ap, ◌∙◌, subst, ⊎_elim, w64, arith}
+use Rattle.std.proofs.Common.{◌≡◌, ℕ, ◌+◌, ◌/◌, ◌%◌, ◌^◌, ◌<◌, Bool, true, false, not, ◌&&◌, ◌||◌, eqb, Some, None, sym, refl, ap, ◌∙◌, subst, ⊎_elim, w64, arith}
 use Rattle.std.specs.Int.{bit_at}
 use Rattle.std.specs.Int.Bits.{bit_xor}
 use Rattle.std.specs.Int.Count.{count_trailing_zeros}
 use Rattle.std.proofs.lemmas.Nat.{shr-shr}
 use Rattle.std.proofs.lemmas.Nat.Bits.{bit_at-lt, bit_at-pow_other, bit_at-pow_same, bit_at-trailing_zeros, bit_at-zero, bit_at_or, bit_at_xor, same_from_bits}
-use Rattle.std.proofs.lemmas.Bool.{eq-eqb, ne_eqb, eqb-true, eqb-false, cond_both, cond-true, cond-false, cases_Bool}
+use Rattle.std.proofs.lemmas.Bool.{eq-eqb, ne_eqb, eqb-true, eqb-false, cond_both, cond-true, cond-false, and_right, or_right, cases_Bool, cases_eq}
 use Rattle.sheet.specs.declared.places.Places.{Places}
 use Rattle.sheet.specs.Places.{Lowest, has, with_place, without, union, is_none, lowest}
 
@@ -29,6 +29,16 @@ with_here n s = has_true (with_place n s) n (omega (arith, bit_at_or s.bits (2 ^
 pub with_other : (n : ℕ) (s : Places) (k : ℕ) → (k ≡ n → ⊥) → has (with_place n s) k ≡ has s k
 with_other n s k ne = ap (λ q. eqb q 1) (bit_at_or s.bits (2 ^ n) k ∙ omega (arith, bit_at-pow_other n k ne))
 
+pub with_has : (n : ℕ) (s : Places) (k : ℕ) → has (with_place n s) k ≡ (has s k || eqb k n)
+with_has n s k = ⊎_elim
+    (λ (e : k ≡ n). subst (λ q. has (with_place n s) q ≡ (has s q || eqb q n)) (sym e) (with_here n s ∙ sym (or_right (has s n) (eqb n n) (eq-eqb n n refl))))
+    (λ (ne : k ≡ n → ⊥). with_other n s k ne ∙ or_none (has s k) ∙ ap (λ b. has s k || b) (sym (ne_eqb k n ne)))
+    (cases_eq k n)
+  where
+    or_none : (a : Bool) → a ≡ (a || false)
+    or_none true = refl
+    or_none false = refl
+
 -- ---- a set without a place does not have it, and has every other as before
 abbrev gone : ℕ → Places → Places
 gone n s = record { bits = bit_xor s.bits (2 ^ n) }
@@ -42,6 +52,16 @@ pub without_other : (n : ℕ) (s : Places) (k : ℕ) → (k ≡ n → ⊥) → h
 without_other n s k ne = cond_both (has s n) (gone n s) s (λ u. has u k ≡ has s k)
     (λ _. ap (λ q. eqb q 1) (bit_at_xor s.bits (2 ^ n) k ∙ omega (arith, bit_at-pow_other n k ne, bit_at-lt s.bits k)))
     (λ _. refl)
+
+pub without_has : (n : ℕ) (s : Places) (k : ℕ) → has (without n s) k ≡ (has s k && not (eqb k n))
+without_has n s k = ⊎_elim
+    (λ (e : k ≡ n). subst (λ q. has (without n s) q ≡ (has s q && not (eqb q n))) (sym e) (without_here n s ∙ sym (and_right (has s n) (not (eqb n n)) (ap not (eq-eqb n n refl)))))
+    (λ (ne : k ≡ n → ⊥). without_other n s k ne ∙ and_all (has s k) ∙ ap (λ b. has s k && not b) (sym (ne_eqb k n ne)))
+    (cases_eq k n)
+  where
+    and_all : (a : Bool) → a ≡ (a && not false)
+    and_all true = refl
+    and_all false = refl
 
 -- ---- the union has what either has
 pub union_has : (s u : Places) (k : ℕ) → has (union s u) k ≡ (has s k || has u k)
@@ -73,7 +93,7 @@ set_below s h =
 
 pub lowest_in : (s : Places) (n : ℕ) → ((k : ℕ) → has s k ≡ true → k < 64) → lowest s ≡ Some n → has s n ≡ true
 lowest_in s n h e = ⊎_elim
-    (λ d. let k = sym (cond-true (is_none s) None (Some (count_trailing_zeros 64 s.bits)) d) ∙ e in let z : ◌≡◌ {A = ℕ} 0 1 = cc in absurd (omega arith))
+    (λ d. let k = sym (cond-true (is_none s) None (Some (count_trailing_zeros 64 s.bits)) d) ∙ e in absurd cc)
     (λ d. let k = sym (cond-false (is_none s) None (Some (count_trailing_zeros 64 s.bits)) d) ∙ e in
     let i : count_trailing_zeros 64 s.bits ≡ n = cc in
     let t = lowest_words s d (set_below s h) in

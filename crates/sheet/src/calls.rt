@@ -1,7 +1,7 @@
 ghost use Rattle.std.specs.Prelude.{◌≡◌, ℕ, ℤ};
 ghost use Rattle.catalogue.specs.Refusals.{numbered};
 ghost use Rattle.sheet.specs.declared.lines.Line.{Line};
-ghost use Rattle.sheet.specs.Calls.{NamesLine, Partnered, Steps, bad_budget, both_read, done, ended_in, enter_answer, enter_asked, enter_table, in_patterns, is_settled, limit_asked, limit_table, limits_read, look_answer, named_partner, outcome_number, partner_asked, pattern_or_none, run_answer, run_asked, settle_answer, settle_asked, settle_table, shown, strike_asked, strike_table};
+ghost use Rattle.sheet.specs.Calls.{NamesLine, Partnered, Steps, bad_budget, both_read, done, ended_in, enter_answer, enter_asked, enter_table, in_patterns, is_settled, limit_asked, limit_table, limits_read, look_answer, named_partner, outcome_number, partner_asked, pattern_or_none, settle_answer, settle_asked, settle_table, shown, strike_asked, strike_table};
 ghost use Rattle.sheet.specs.Rules.{new_table, settled, table_of};
 
 use crate::lines::CheckedLine;
@@ -133,33 +133,16 @@ impl<C: Catalogue> Sheet<C> {
         Ok((self.catalogue.rank(x)?, self.catalogue.rank(z)?))
     }
 
-    /// The partner that the catalogue names, or why the call is declined.
-    fn named_partner(&self, place: u32, x: u32, z: u32) -> Result<Option<u32>, Refusal>
-        ensures { numbered result ≡ partner_asked (C.meaning self.now.catalogue) place x z self.now.table }
+    /// Some y in the shown range of a line's y that makes an allowed triple with the patterns x and z, or none.
+    pub fn partner(&self, place: u32, x: u32, z: u32) -> Result<Option<u32>, Refusal>
+        ensures answer { numbered result ≡ partner_asked (C.meaning self.now.catalogue) place x z self.now.table }
+        ensures choice { (l : Line) (p : ℤ × ℤ) → Partnered (C.meaning self.now.catalogue) l p self.now.table }
     {
         let place = self.place_of_line(place)?;
         let line = self.table.line_at(place).map_err(|_| Refusal::NoLineThere)?;
         let (x, z) = self.ranks(x, z)?;
         let look = self.look()?;
         Ok(look.partner_of(&line, x, z))
-    }
-
-    /// Some y in the shown range of a line's y that makes an allowed triple with the patterns x and z, or none.
-    pub fn partner(&self, place: u32, x: u32, z: u32) -> Result<Option<u32>, Refusal>
-        ensures answer { numbered result ≡ partner_asked (C.meaning self.now.catalogue) place x z self.now.table }
-        ensures choice { (l : Line) (p : ℤ × ℤ) → Partnered (C.meaning self.now.catalogue) l p self.now.table }
-    {
-        self.named_partner(place, x, z)
-    }
-
-    /// Steps until rest or until the budget is spent, whatever the budget.
-    fn run(&mut self, budget: u32) -> (Outcome, u32)
-        ensures answer { run_answer result ≡ run_asked (settled (C.meaning self.old.catalogue) budget self.old.table) }
-        ensures table { self.new.table ≡ (settled (C.meaning self.old.catalogue) budget self.old.table).table }
-        ensures catalogue { self.new.catalogue ≡ self.old.catalogue }
-    {
-        let steps = self.table.settle(&self.catalogue, budget);
-        (Outcome::from(self.table.state), steps)
     }
 
     /// Steps until rest or until the budget is spent: how it ended, and how many steps were made.
@@ -173,7 +156,8 @@ impl<C: Catalogue> Sheet<C> {
         if is_bad_budget(budget) {
             return Err(Refusal::BudgetOutOfRange);
         }
-        Ok(self.run(budget))
+        let steps = self.table.settle(&self.catalogue, budget);
+        Ok((Outcome::from(self.table.state), steps))
     }
 
     /// A look at the sheet, which shows nothing while it is void.
