@@ -1,7 +1,7 @@
 -- A limit, an enter and a strike that are carried out leave a sound table.
-use Rattle.std.proofs.Common.{◌≡◌, ℕ, ◌<◌, true, false, not, ◌≢◌, length, get_or, set, Some, None, sym, refl, ap, ◌∙◌, subst, ⊎_elim, arith}
+use Rattle.std.proofs.Common.{◌≡◌, ℕ, ◌<◌, true, false, not, ◌≢◌, set, Some, None, sym, refl, ap, ◌∙◌, subst, ⊎_elim, arith}
 use lib.Signed.{lt_z}
-use Rattle.std.proofs.lemmas.List.{get_or-set_same, get_or-set_other, length-set}
+use Rattle.std.proofs.lemmas.List.{length-set}
 use Rattle.std.proofs.lemmas.Int.{ints}
 use Rattle.std.proofs.lemmas.Bool.{cases_eq, both_ways, cond_both, and_parts, not-true}
 use Rattle.catalogue.specs.declared.types.Range.{Range}

@@ -8,6 +8,7 @@ use Rattle.catalogue.specs.Ranges.{Holds, HoldsO, Within, WithinO}
 use Rattle.sheet.specs.declared.lines.Line.{Line}
 use Rattle.sheet.specs.declared.table.State.{State}
 use Rattle.sheet.specs.declared.table.State.TheVariants.{Settled, Open, Void}
+use Rattle.sheet.specs.declared.table.Table.{Table}
 use Rattle.sheet.specs.Calls.{is_void}
 use Rattle.promise.specs.Histories.{Call, strike, enter, after, limits_of, line_at, HasLine}
 use Rattle.promise.specs.Promise.{Ranges, Assignment, given_to, Consistent, Inside, InLimits, Keeps, Shows, SameLines, SameLimits, Alike, Rests, Promise, ForEveryCatalogue, settles, Consequences}
@@ -137,6 +138,10 @@ module _ (m : Meaning) (laws : Laws m) where
 
   pub promise_kept : Promise m
   promise_kept = record { shows = shown; alike = same_rest }
+
+  -- what a table that a history leads to shows
+  pub shows_after : (t : Table) (h : List Call) → t ≡ after m h → Shows m h t
+  shows_after t h e = subst (Shows m h) (sym e) (shown h)
 
   -- ---- consequences
 
