@@ -6,6 +6,7 @@ pub mod interface;
 pub mod modes;
 pub mod narrowing;
 pub mod non_empty;
+mod numbers;
 pub mod partners;
 pub mod ranges;
 pub mod refusals;

@@ -8,7 +8,6 @@ use catalogue::interface::Catalogue;
 use catalogue::types::Kind;
 use commands::{Command, read};
 use counters::counter::Counter;
-use sheet::kind_number;
 use sheet::lines::DrawnLine;
 use sheet::sheet::Sheet;
 use sheet::table::Outcome;
@@ -99,7 +98,7 @@ impl Ledger {
                 y,
                 z,
             } => {
-                let kind = u32::from(kind_number(kind));
+                let kind = u32::from(u8::from(kind));
                 self.enter(
                     sheet,
                     place,

@@ -55,18 +55,18 @@ cut_table_left r b t lt wide =
 
 cut_left : (r : ℕ) (b : Range) (t u : Table) → r < 32 → length t.ranges ≡ 32 → cut r b t ≡ Some u → Left r b t u
 cut_left r b t u lt wide e = ⊎_elim
-    (λ d. let h = sym (cond-true (empty (meet (range_at t r) b)) None (Some (cut_table r b t)) d) ∙ e in let z : ◌≡◌ {A = ℕ} 0 1 = cc in absurd (omega arith))
+    (λ d. let h = sym (cond-true (empty (meet (range_at t r) b)) None (Some (cut_table r b t)) d) ∙ e in absurd cc)
     (λ d. let h = sym (cond-false (empty (meet (range_at t r) b)) None (Some (cut_table r b t)) d) ∙ e in
     let same : cut_table r b t ≡ u = cc in
     subst (Left r b t) same (cut_table_left r b t lt wide))
     (cases_Bool (empty (meet (range_at t r) b)))
 
 then_some : (o : Option Table) (f : Table → Option Table) (u : Table) → then o f ≡ Some u → (v : Table) × (o ≡ Some v) × (f v ≡ Some u)
-then_some None f u e = let z : ◌≡◌ {A = ℕ} 0 1 = cc in absurd (omega arith)
+then_some None f u e = absurd cc
 then_some (Some v) f u e = (v, refl, e)
 
 absorbed_left : (l : Line) (o : Option Triple) (t u : Table) → Passes l → length t.ranges ≡ 32 → absorbed l o t ≡ Some u → ((r : ℕ) → r < 32 → range_at u r ≡ range_at t r) → WithinO (Some (given l t)) o
-absorbed_left l None t u p wide e same = let z : ◌≡◌ {A = ℕ} 0 1 = cc in absurd (omega arith)
+absorbed_left l None t u p wide e same = absurd cc
 absorbed_left l (Some s) t u p wide e same =
     let c = then_some (then (cut l.x s.x t) (cut l.y s.y)) (cut l.z s.z) u e in
     let b = then_some (cut l.x s.x t) (cut l.y s.y) c.0 c.1 in

@@ -1,7 +1,7 @@
 -- A limit, an enter and a strike that are carried out leave a sound table.
-use Rattle.std.proofs.Common.{◌≡◌, ℕ, ◌<◌, true, false, not, ◌≢◌, length, get_or, set, Some, None, sym, refl, ap, ◌∙◌, subst, ⊎_elim, arith}
+use Rattle.std.proofs.Common.{◌≡◌, ℕ, ◌<◌, true, false, not, ◌≢◌, set, Some, None, sym, refl, ap, ◌∙◌, subst, ⊎_elim, arith}
 use lib.Signed.{lt_z}
-use Rattle.std.proofs.lemmas.List.{get_or-set_same, get_or-set_other, length-set}
+use Rattle.std.proofs.lemmas.List.{length-set}
 use Rattle.std.proofs.lemmas.Int.{ints}
 use Rattle.std.proofs.lemmas.Bool.{cases_eq, both_ways, cond_both, and_parts, not-true}
 use Rattle.catalogue.specs.declared.types.Range.{Range}
@@ -21,6 +21,7 @@ use Rattle.promise.proofs.Cutting.{shape_same, cut_live, cut_none, cut_within, c
 use Rattle.sheet.proofs.PlaceSets.{with_here, with_other}
 use Rattle.promise.proofs.Placing.{placed_shape, removed_shape, removed_limits}
 use Rattle.promise.proofs.Resting.{rested_sound, voided_sound, returned_sound}
+use Rattle.promise.proofs.Setting.{at_each}
 use Rattle.promise.proofs.Sounds.{Drawn, Fixed, Stands, Shape, Limited, Live, Sound, nowhere}
 use Rattle.promise.proofs.Stepping.{limited_same}
 use Rattle.promise.proofs.Unmoving.{within_then}
@@ -38,12 +39,8 @@ module _ (m : Meaning) (old new : Ranges) (at : Drawn) (t : Table) (sound : Soun
   reset = with_limits (set t.limits r b) t
 
   reset_at : (P : ℕ → Range → Range → Type 0) → P r b b → ((q : ℕ) → (q ≡ r → ⊥) → P q (limits_at t q) (old q)) → (q : ℕ) → P q (limits_at reset q) (new q)
-  reset_at P here other q =
-      let in_list : r < length t.limits = omega (arith, sound.limited.long) in
-      ⊎_elim
-      (λ (e : q ≡ r). subst (λ j. P j (get_or (set t.limits r b) j no_range) (new j)) (sym e) (subst (P r (get_or (set t.limits r b) r no_range)) (sym own) (subst (λ v. P r v b) (sym (get_or-set_same t.limits r b no_range in_list)) here)))
-      (λ (ne : q ≢ r). subst (P q (get_or (set t.limits r b) q no_range)) (sym (off q ne)) (subst (λ v. P q v (old q)) (sym (get_or-set_other t.limits r q b no_range ne)) (other q ne)))
-      (cases_eq q r)
+  reset_at P here other = at_each t.limits r b no_range (omega (arith, sound.limited.long)) (λ q v. P q v (new q))
+      (subst (P r b) (sym own) here) (λ q ne. subst (P q (limits_at t q)) (sym (off q ne)) (other q ne))
 
   reset_limited : Limited m new reset
   reset_limited =
@@ -110,18 +107,18 @@ module _ (m : Meaning) (old new : Ranges) (at : Drawn) (t : Table) (sound : Soun
           quiet = cut_on.quiet;
         }))
 
-    tight : (s : State) → t.state ≡ s → Sound m new at (reacted m s Tightened r reset)
+    tight : (s : State) → t.state ≡ s → Sound m new at (reacted m s (Tightened r) reset)
     tight Settled e = tight_live (ap is_void e)
     tight Open e = tight_live (ap is_void e)
     tight Void e = tight_void (ap is_void e)
 
-  loose : (s : State) → Sound m new at (reacted m s Loosened r reset)
+  loose : (s : State) → Sound m new at (reacted m s Loosened reset)
   loose Settled = returned_sound m new at reset reset_limited reset_shape
   loose Open = returned_sound m new at reset reset_limited reset_shape
   loose Void = returned_sound m new at reset reset_limited reset_shape
 
   pub limited_sound : Sound m new at (limited m r b t)
-  limited_sound = cond_both (inside b (limits_at t r)) Tightened Loosened (λ e. Sound m new at (reacted m t.state e r reset))
+  limited_sound = cond_both (inside b (limits_at t r)) (Tightened r) Loosened (λ e. Sound m new at (reacted m t.state e reset))
       (λ h. tight (subst (Within b) (sound.limited.same r lt) (inside_true b (limits_at t r) h)) t.state refl)
       (λ _. loose t.state)
 
@@ -138,7 +135,7 @@ module _ (m : Meaning) (limits-to : Ranges) (at now : Drawn) (t : Table) (sound 
     proper = c.proper;
     limits = c.limits;
     unmoved = λ k j e. ⊎_elim
-        (λ (f : k ≡ n). let g : at n ≡ Some j = subst (λ q. at q ≡ Some j) f e in let z : ◌≡◌ {A = ℕ} 0 1 = cc in absurd (omega arith))
+        (λ (f : k ≡ n). let g : at n ≡ Some j = subst (λ q. at q ≡ Some j) f e in absurd cc)
         (λ (ne : k ≢ n). c.unmoved k j (off k ne ∙ e))
         (cases_eq k n);
   }
@@ -181,7 +178,7 @@ module _ (m : Meaning) (limits-to : Ranges) (at now : Drawn) (t : Table) (sound 
         void = λ h. absurd (both_ways false refl h);
       }
 
-  enter_as : (s : State) → t.state ≡ s → Sound m limits-to now (reacted m s Entered n more)
+  enter_as : (s : State) → t.state ≡ s → Sound m limits-to now (reacted m s (Entered n) more)
   enter_as Settled e = enter_live (ap is_void e)
   enter_as Open e = enter_live (ap is_void e)
   enter_as Void e = enter_void (ap is_void e)
@@ -191,13 +188,13 @@ module _ (m : Meaning) (limits-to : Ranges) (at now : Drawn) (t : Table) (sound 
 
 -- ---- a line struck
 module _ (m : Meaning) (limits-to : Ranges) (at now : Drawn) (t : Table) (sound : Sound m limits-to at t) (n : ℕ) (l : Line) (here : at n ≡ Some l) (own : now n ≡ None) (off : (k : ℕ) → (k ≡ n → ⊥) → now k ≡ at k) where
-  strike_as : (s : State) → Sound m limits-to now (reacted m s Struck n (removed n t))
+  strike_as : (s : State) → Sound m limits-to now (reacted m s Struck (removed n t))
   strike_as s = by s (returned_sound m limits-to now (removed n t) (limited_same m limits-to t (removed n t) (removed_limits n l t stands) sound.limited) (removed_shape n l t stands at now sound.shape own off))
     where
       stands : Stands t n l
       stands = sound.shape.there n l here
 
-      by : (s : State) → Sound m limits-to now (returned (removed n t)) → Sound m limits-to now (reacted m s Struck n (removed n t))
+      by : (s : State) → Sound m limits-to now (returned (removed n t)) → Sound m limits-to now (reacted m s Struck (removed n t))
       by Settled h = h
       by Open h = h
       by Void h = h

@@ -1,7 +1,7 @@
 -- A cut of one register keeps the invariant of a table that is not void.
-use Rattle.std.proofs.Common.{◌≡◌, ℕ, ◌<◌, true, false, ◌&&◌, ◌||◌, eqb, ◌≢◌, length, get_or, set, Some, sym, refl, ap, ◌∙◌, subst, ⊎_elim, arith}
+use Rattle.std.proofs.Common.{◌≡◌, ℕ, ◌<◌, true, false, ◌&&◌, ◌||◌, eqb, ◌≢◌, length, get_or, Some, sym, refl, ap, ◌∙◌, subst, ⊎_elim, arith}
 use Rattle.std.proofs.lemmas.List.{get_or-set_same, get_or-set_other, length-set}
-use Rattle.std.proofs.lemmas.Bool.{cases_eq, cases_Bool, both_ways, cond-true, cond-false, cond_both, eqb-false, eq-eqb, and_parts, or_cases, or_left, or_right, or_parts}
+use Rattle.std.proofs.lemmas.Bool.{cases_Bool, both_ways, cond-true, cond-false, cond_both, eqb-false, eq-eqb, and_parts, or_cases, or_left, or_right, or_parts}
 use Rattle.catalogue.specs.declared.types.Range.{Range}
 use Rattle.catalogue.specs.Meanings.{Meaning}
 use Rattle.catalogue.specs.Ranges.{Within, Proper, meet}
@@ -14,6 +14,7 @@ use Rattle.promise.specs.Promise.{Ranges}
 use Rattle.sheet.specs.Rules.{no_range, no_row, range_at, row_at, naming_at, empty, smaller, changed, cut_table}
 use Rattle.promise.proofs.Indexes.{LinesStay, index_same}
 use Rattle.sheet.proofs.PlaceSets.{union_has}
+use Rattle.promise.proofs.Setting.{at_each}
 use Rattle.promise.proofs.Sounds.{Drawn, Shape, Stands, Live}
 use Rattle.promise.proofs.Unmoving.{Unmoved, unmoved_same, within_then, within_meet, meet_left, meet_right, some_left, proper_from, covers}
 
@@ -44,10 +45,7 @@ module _ (at : Drawn) (t : Table) (shape : Shape at t) (k : ℕ) (l : Line) (her
 -- ---- a register's range replaced
 module _ (r : ℕ) (new : Range) (t : Table) (in_table : r < length t.ranges) where
   pub changed_at : (P : ℕ → Range → Type 0) → P r new → ((q : ℕ) → (q ≡ r → ⊥) → P q (range_at t q)) → (q : ℕ) → P q (range_at (changed r new t) q)
-  changed_at P here off q = ⊎_elim
-      (λ (e : q ≡ r). subst (λ j. P j (get_or (set t.ranges r new) j no_range)) (sym e) (subst (P r) (sym (get_or-set_same t.ranges r new no_range in_table)) here))
-      (λ (ne : q ≢ r). subst (P q) (sym (get_or-set_other t.ranges r q new no_range ne)) (off q ne))
-      (cases_eq q r)
+  changed_at = at_each t.ranges r new no_range in_table
 
 changed_other : (r : ℕ) (new : Range) (t : Table) (q : ℕ) → eqb q r ≡ false → range_at t q ≡ range_at (changed r new t) q
 changed_other r new t q h = let ne : q ≢ r = eqb-false q r h in sym (get_or-set_other t.ranges r q new no_range ne)

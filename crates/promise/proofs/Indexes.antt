@@ -1,7 +1,7 @@
 -- No call spoils the index from registers to lines.
-use Rattle.std.proofs.Common.{◌≡◌, ℕ, zero, suc, ◌<◌, Bool, true, false, ◌&&◌, ◌||◌, eqb, ◌≢◌, List, length, get_or, set, replicate, Some, None, Ok, Err, Option, Result, sym, refl, ap, ◌∙◌, subst, ⊎_elim, arith}
-use Rattle.std.proofs.lemmas.List.{get_or-set_same, get_or-set_other, length-set}
-use Rattle.std.proofs.lemmas.Bool.{cond_both, cases_eq, eq-eqb, ne_eqb}
+use Rattle.std.proofs.Common.{◌≡◌, ℕ, zero, suc, ◌<◌, Bool, true, false, ◌&&◌, ◌||◌, eqb, List, length, get_or, set, Some, None, Ok, Err, Option, Result, sym, refl, ap, ◌∙◌, subst, arith}
+use Rattle.std.proofs.lemmas.List.{get_or-replicate, length-set}
+use Rattle.std.proofs.lemmas.Bool.{cond_both, eq-eqb, ne_eqb}
 use Rattle.catalogue.specs.declared.types.Range.{Range}
 use Rattle.catalogue.specs.declared.types.Triple.{Triple}
 use Rattle.catalogue.specs.Meanings.{Meaning, all_readings}
@@ -16,8 +16,9 @@ use Rattle.sheet.specs.Lines.{row_of, checked, drawn_of}
 use Rattle.sheet.specs.Places.{has, none, with_place, without, lowest}
 use Rattle.promise.proofs.Index.{names, Indexed}
 use Rattle.sheet.specs.Rules.{no_row, row_at, naming_at, empty, smaller, changed, cut_table, cut, or_void, then, absorbed, narrowed_by, step_line, step_at, reacted, named, placed, settled, new_table, table_of, range_at, limits_at, at_rest, after_steps, given, with_due, with_limits, limited, limit_event, entered}
+use Rattle.promise.proofs.Setting.{at_each}
 use Rattle.catalogue.specs.Ranges.{meet}
-use Rattle.sheet.proofs.PlaceSets.{with_here, with_other, zero_bit, has_false}
+use Rattle.sheet.proofs.PlaceSets.{with_here, with_other, with_has, none_has}
 
 -- ---- tables with the same lines
 pub record LinesStay (t u : Table) : Type 0 where
@@ -76,43 +77,35 @@ module _ (m : Meaning) where
   step_at_lines None t = same_lines t
   step_at_lines (Some n) t = let s = step_line_lines (checked (drawn_of (row_at t n))) (with_due (without n t.due) t) in record { rows = s.rows; standing = s.standing; naming = s.naming }
 
-  pub reacted_lines : (s : State) (e : Event) (at : ℕ) (t : Table) → LinesStay (reacted m s e at t) t
-  reacted_lines Void Tightened at t = same_lines t
-  reacted_lines Settled Tightened at t = or_void_lines t _ (cut_lines at (limits_at t at) t)
-  reacted_lines Open Tightened at t = or_void_lines t _ (cut_lines at (limits_at t at) t)
-  reacted_lines Void Loosened at t = record { rows = refl; standing = refl; naming = refl }
-  reacted_lines Settled Loosened at t = record { rows = refl; standing = refl; naming = refl }
-  reacted_lines Open Loosened at t = record { rows = refl; standing = refl; naming = refl }
-  reacted_lines Void Entered at t = same_lines t
-  reacted_lines Settled Entered at t = record { rows = refl; standing = refl; naming = refl }
-  reacted_lines Open Entered at t = record { rows = refl; standing = refl; naming = refl }
-  reacted_lines Void Struck at t = record { rows = refl; standing = refl; naming = refl }
-  reacted_lines Settled Struck at t = record { rows = refl; standing = refl; naming = refl }
-  reacted_lines Open Struck at t = record { rows = refl; standing = refl; naming = refl }
-  reacted_lines Void Step at t = same_lines t
-  reacted_lines Settled Step at t = same_lines t
-  reacted_lines Open Step at t = step_at_lines (lowest t.due) t
+  pub reacted_lines : (s : State) (e : Event) (t : Table) → LinesStay (reacted m s e t) t
+  reacted_lines Void (Tightened r) t = same_lines t
+  reacted_lines Settled (Tightened r) t = or_void_lines t _ (cut_lines r (limits_at t r) t)
+  reacted_lines Open (Tightened r) t = or_void_lines t _ (cut_lines r (limits_at t r) t)
+  reacted_lines Void Loosened t = record { rows = refl; standing = refl; naming = refl }
+  reacted_lines Settled Loosened t = record { rows = refl; standing = refl; naming = refl }
+  reacted_lines Open Loosened t = record { rows = refl; standing = refl; naming = refl }
+  reacted_lines Void (Entered n) t = same_lines t
+  reacted_lines Settled (Entered n) t = record { rows = refl; standing = refl; naming = refl }
+  reacted_lines Open (Entered n) t = record { rows = refl; standing = refl; naming = refl }
+  reacted_lines Void Struck t = record { rows = refl; standing = refl; naming = refl }
+  reacted_lines Settled Struck t = record { rows = refl; standing = refl; naming = refl }
+  reacted_lines Open Struck t = record { rows = refl; standing = refl; naming = refl }
+  reacted_lines Void Step t = same_lines t
+  reacted_lines Settled Step t = same_lines t
+  reacted_lines Open Step t = step_at_lines (lowest t.due) t
 
   pub settled_lines : (b : ℕ) (t : Table) → LinesStay (settled m b t).table t
   settled_lines zero t = same_lines t
-  settled_lines (suc b) t = cond_both (at_rest t.state) record { table = t; steps = 0 } (after_steps 1 (settled m b (reacted m t.state Step 0 t))) (λ a. LinesStay a.table t)
-      (λ _. same_lines t) (λ _. lines_then _ _ t (settled_lines b _) (reacted_lines t.state Step 0 t))
+  settled_lines (suc b) t = cond_both (at_rest t.state) record { table = t; steps = 0 } (after_steps 1 (settled m b (reacted m t.state Step t))) (λ a. LinesStay a.table t)
+      (λ _. same_lines t) (λ _. lines_then _ _ t (settled_lines b _) (reacted_lines t.state Step t))
 
 -- ---- a new table, and a line that is put at a free place
-pub get_or_same : (k i : ℕ) → get_or (replicate k none) i none ≡ none
-get_or_same zero i = refl
-get_or_same (suc k) zero = refl
-get_or_same (suc k) (suc i) = get_or_same k i
-
 pub new_indexed : (m : Meaning) → Indexed (new_table m)
 new_indexed m = record {
   places = refl;
   registers = refl;
-  agrees = λ r n hr hn. ap (λ p. has p n) (get_or_same 32 r) ∙ nowhere n ∙ sym (ap (λ b. b && names r (row_at (new_table m) n)) (nowhere n));
+  agrees = λ r n hr _. ap (λ p. has p n) (get_or-replicate 32 r none none hr) ∙ none_has none refl n ∙ sym (ap (λ b. b && names r (row_at (new_table m) n)) (none_has none refl n));
 }
-  where
-    nowhere : (n : ℕ) → has none n ≡ false
-    nowhere n = has_false none n (zero_bit n)
 
 -- the table that the code makes
 pub new_made : (m : Meaning) (t : Table) (all : Range) → t ≡ table_of all → all ≡ all_readings m → (t ≡ new_table m) × Indexed t
@@ -122,31 +115,14 @@ new_made m t all e f =
 
 -- the line at n names r
 pub named_at : (n x : ℕ) (s : List Places) (r k : ℕ) → x < length s → has (get_or (named n x s) r none) k ≡ (has (get_or s r none) k || (eqb x r && eqb k n))
-named_at n x s r k lt = ⊎_elim
-    (λ (e : r ≡ x). subst (λ q. has (get_or (named n x s) q none) k ≡ (has (get_or s q none) k || (eqb x q && eqb k n))) (sym e)
-    (ap (λ p. has p k) (get_or-set_same s x (with_place n (get_or s x none)) none lt)
-    ∙ here (get_or s x none) ∙ ap (λ b. has (get_or s x none) k || (b && eqb k n)) (sym (eq-eqb x x refl))))
-    (λ (ne : r ≢ x). ap (λ p. has p k) (get_or-set_other s x r (with_place n (get_or s x none)) none ne)
-    ∙ off (has (get_or s r none) k) (eqb k n) ∙ ap (λ b. has (get_or s r none) k || (b && eqb k n)) (sym (ne_eqb x r (λ e. ne (sym e)))))
-    (cases_eq r x)
+named_at n x s r k lt = at_each s x (with_place n (get_or s x none)) none lt (λ q p. has p k ≡ (has (get_or s q none) k || (eqb x q && eqb k n)))
+    (with_has n (get_or s x none) k ∙ ap (λ b. has (get_or s x none) k || (b && eqb k n)) (sym (eq-eqb x x refl)))
+    (λ q ne. off (has (get_or s q none) k) (eqb k n) ∙ ap (λ b. has (get_or s q none) k || (b && eqb k n)) (sym (ne_eqb x q (λ e. ne (sym e)))))
+    r
   where
     off : (a b : Bool) → a ≡ (a || (false && b))
     off true b = refl
     off false b = refl
-
-    alone : (a : Bool) → a ≡ (a || (true && false))
-    alone true = refl
-    alone false = refl
-
-    both : (a : Bool) → true ≡ (a || (true && true))
-    both true = refl
-    both false = refl
-
-    here : (p : Places) → has (with_place n p) k ≡ (has p k || (true && eqb k n))
-    here p = ⊎_elim
-        (λ (e : k ≡ n). subst (λ q. has (with_place n p) q ≡ (has p q || (true && eqb q n))) (sym e) (with_here n p ∙ both (has p n) ∙ ap (λ b. has p n || (true && b)) (sym (eq-eqb n n refl))))
-        (λ (ne : k ≢ n). with_other n p k ne ∙ alone (has p k) ∙ ap (λ b. has p k || (true && b)) (sym (ne_eqb k n ne)))
-        (cases_eq k n)
 
 pub length_named : (n x : ℕ) (s : List Places) → length (named n x s) ≡ length s
 length_named n x s = simp length-set
@@ -185,17 +161,13 @@ placed_indexed n l t lt reg free i =
           let a = has (get_or s0 r none) k in
           let all : has (naming_at (placed n l t) r) k ≡ (a || (names r (row_of l) && eqb k n)) =
           hz ∙ ap (λ b. b || (eqb l.z r && eqb k n)) (hy ∙ ap (λ b. b || (eqb l.y r && eqb k n)) hx) ∙ merge a (eqb l.x r) (eqb l.y r) (eqb l.z r) (eqb k n) in
-          all ∙ ⊎_elim
-          (λ (e : k ≡ n). subst (λ q. (has (get_or s0 r none) q || (names r (row_of l) && eqb q n)) ≡ (has (with_place n t.standing) q && names r (get_or (set t.rows n (row_of l)) q no_row))) (sym e)
-          (ap (λ b. b || (names r (row_of l) && eqb n n)) (i.agrees r n hr lt ∙ ap (λ b. b && names r (row_at t n)) free)
-          ∙ ap (λ b. false || (names r (row_of l) && b)) (eq-eqb n n refl) ∙ true_and (names r (row_of l))
-          ∙ ap (λ w. true && names r w) (sym (get_or-set_same t.rows n (row_of l) no_row (omega (arith, i.places))))
-          ∙ ap (λ b. b && names r (get_or (set t.rows n (row_of l)) n no_row)) (sym (with_here n t.standing))))
-          (λ (ne : k ≢ n). ap (λ b. a || (names r (row_of l) && b)) (ne_eqb k n ne) ∙ drop_false a (names r (row_of l))
-          ∙ i.agrees r k hr hk
-          ∙ ap (λ w. has t.standing k && names r w) (sym (get_or-set_other t.rows n k (row_of l) no_row ne))
-          ∙ ap (λ b. b && names r (get_or (set t.rows n (row_of l)) k no_row)) (sym (with_other n t.standing k ne)))
-          (cases_eq k n);
+          let line = names r (row_of l) in
+          all ∙ at_each t.rows n (row_of l) no_row (omega (arith, i.places)) (λ q w. q < 64 → (has (get_or s0 r none) q || (line && eqb q n)) ≡ (has (with_place n t.standing) q && names r w))
+          (λ _. ap (λ b. b || (line && eqb n n)) (i.agrees r n hr lt ∙ ap (λ b. b && names r (row_at t n)) free)
+          ∙ ap (λ b. false || (line && b)) (eq-eqb n n refl) ∙ true_and line ∙ ap (λ b. b && line) (sym (with_here n t.standing)))
+          (λ q ne hq. ap (λ b. has (get_or s0 r none) q || (line && b)) (ne_eqb q n ne) ∙ drop_false (has (get_or s0 r none) q) line
+          ∙ i.agrees r q hr hq ∙ ap (λ b. b && names r (row_at t q)) (sym (with_other n t.standing q ne)))
+          k hk;
     }
   where
     true_and : (b : Bool) → (false || (b && true)) ≡ (true && b)
@@ -210,11 +182,11 @@ placed_indexed n l t lt reg free i =
 -- ---- the calls
 module _ (m : Meaning) where
   pub limited_indexed : (r : ℕ) (b : Range) (t u : Table) → u ≡ limited m r b t → Indexed t → Indexed u
-  limited_indexed r b t u e i = subst Indexed (sym e) (index_same _ (with_limits (set t.limits r b) t) (reacted_lines m t.state (limit_event r b t) r (with_limits (set t.limits r b) t))
+  limited_indexed r b t u e i = subst Indexed (sym e) (index_same _ (with_limits (set t.limits r b) t) (reacted_lines m t.state (limit_event r b t) (with_limits (set t.limits r b) t))
       (index_same _ t (record { rows = refl; standing = refl; naming = refl }) i))
 
   pub entered_indexed : (n : ℕ) (l : Line) (t u : Table) → u ≡ entered m n l t → n < 64 → (l.x < 32) × (l.y < 32) × (l.z < 32) → has t.standing n ≡ false → Indexed t → Indexed u
-  entered_indexed n l t u e lt reg free i = subst Indexed (sym e) (index_same _ (placed n l t) (reacted_lines m t.state Entered n (placed n l t)) (placed_indexed n l t lt reg free i))
+  entered_indexed n l t u e lt reg free i = subst Indexed (sym e) (index_same _ (placed n l t) (reacted_lines m t.state (Entered n) (placed n l t)) (placed_indexed n l t lt reg free i))
 
   pub settled_indexed : (b : ℕ) (t u : Table) → u ≡ (settled m b t).table → Indexed t → Indexed u
   settled_indexed b t u e i = subst Indexed (sym e) (index_same _ t (settled_lines m b t) i)

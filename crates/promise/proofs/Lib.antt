@@ -1,6 +1,7 @@
 -- The promise, proved from the bottom up. The index from registers to lines (Index, Indexes); a line made again from its row (Remade);
 -- ranges that a line leaves as they are (Unmoving); the invariant (Sounds), kept by cuts, steps and calls (Cutting, Resting, Stepping,
 -- Placing, Changing); and so after every history (Recounting, Declining, Promised).
+pub mod Setting
 pub mod Index
 pub mod Indexes
 pub mod Remade

@@ -11,8 +11,9 @@ use Rattle.sheet.specs.Lines.{row_of, drawn_of, checked}
 use Rattle.sheet.specs.Places.{has, none, without}
 use Rattle.sheet.specs.Rules.{no_row, row_at, naming_at, named, placed, unnamed, unindexed, removed, with_standing}
 use Rattle.promise.proofs.Indexes.{named_at, length_named, placed_indexed}
-use Rattle.sheet.proofs.PlaceSets.{with_here, with_other, without_here, without_other}
+use Rattle.sheet.proofs.PlaceSets.{with_here, with_other, without_here, without_other, without_has}
 use Rattle.promise.proofs.Remade.{passing, remade}
+use Rattle.promise.proofs.Setting.{at_each}
 use Rattle.promise.proofs.Sounds.{Drawn, Stands, Shape}
 
 -- ---- the places of the lines that name each register are below 64
@@ -54,38 +55,21 @@ module _ (at now : Drawn) (n : ℕ) (l : Line) (t : Table) (shape : Shape at t) 
             record { place = s.place; stands = with_other n t.standing k ne ∙ s.stands; row = get_or-set_other t.rows n k (row_of l) no_row ne ∙ s.row; passes = s.passes })
             (cases_eq k n);
         free = λ k e. ⊎_elim
-            (λ (f : k ≡ n). let g : now n ≡ None = subst (λ q. now q ≡ None) f e in let z : ◌≡◌ {A = ℕ} 0 1 = cc in absurd (omega arith))
+            (λ (f : k ≡ n). let g : now n ≡ None = subst (λ q. now q ≡ None) f e in absurd cc)
             (λ (ne : k ≢ n). with_other n t.standing k ne ∙ shape.free k (sym (off k ne) ∙ e))
             (cases_eq k n);
       }
 
 -- ---- a line taken away
 unnamed_at : (n x : ℕ) (s : List Places) (r k : ℕ) → x < length s → has (get_or (unnamed n x s) r none) k ≡ (has (get_or s r none) k && not (eqb x r && eqb k n))
-unnamed_at n x s r k lt = ⊎_elim
-    (λ (e : r ≡ x). subst (λ q. has (get_or (unnamed n x s) q none) k ≡ (has (get_or s q none) k && not (eqb x q && eqb k n))) (sym e)
-    (ap (λ p. has p k) (get_or-set_same s x (without n (get_or s x none)) none lt)
-    ∙ here (get_or s x none) ∙ ap (λ b. has (get_or s x none) k && not (b && eqb k n)) (sym (eq-eqb x x refl))))
-    (λ (ne : r ≢ x). ap (λ p. has p k) (get_or-set_other s x r (without n (get_or s x none)) none ne)
-    ∙ off (has (get_or s r none) k) (eqb k n) ∙ ap (λ b. has (get_or s r none) k && not (b && eqb k n)) (sym (ne_eqb x r (λ e. ne (sym e)))))
-    (cases_eq r x)
+unnamed_at n x s r k lt = at_each s x (without n (get_or s x none)) none lt (λ q p. has p k ≡ (has (get_or s q none) k && not (eqb x q && eqb k n)))
+    (without_has n (get_or s x none) k ∙ ap (λ b. has (get_or s x none) k && not (b && eqb k n)) (sym (eq-eqb x x refl)))
+    (λ q ne. off (has (get_or s q none) k) (eqb k n) ∙ ap (λ b. has (get_or s q none) k && not (b && eqb k n)) (sym (ne_eqb x q (λ e. ne (sym e)))))
+    r
   where
     off : (a b : Bool) → a ≡ (a && not (false && b))
     off true b = refl
     off false b = refl
-
-    alone : (a : Bool) → a ≡ (a && not (true && false))
-    alone true = refl
-    alone false = refl
-
-    gone : (a : Bool) → false ≡ (a && not (true && true))
-    gone true = refl
-    gone false = refl
-
-    here : (p : Places) → has (without n p) k ≡ (has p k && not (true && eqb k n))
-    here p = ⊎_elim
-        (λ (e : k ≡ n). subst (λ q. has (without n p) q ≡ (has p q && not (true && eqb q n))) (sym e) (without_here n p ∙ gone (has p n) ∙ ap (λ b. has p n && not (true && b)) (sym (eq-eqb n n refl))))
-        (λ (ne : k ≢ n). without_other n p k ne ∙ alone (has p k) ∙ ap (λ b. has p k && not (true && b)) (sym (ne_eqb k n ne)))
-        (cases_eq k n)
 
 length_unnamed : (n x : ℕ) (s : List Places) → length (unnamed n x s) ≡ length s
 length_unnamed n x s = simp length-set
@@ -167,7 +151,7 @@ module _ (n : ℕ) (l : Line) (t : Table) (s : Stands t n l) where
           indexed = taken_indexed i;
           named = unnamed_below n l.z s2 (omega (arith, p.z)) (unnamed_below n l.y s1 (omega (arith, p.y)) (unnamed_below n l.x t.naming (omega (arith, p.x, i.registers)) shape.named));
           there = λ k j e. ⊎_elim
-              (λ (f : k ≡ n). let g : now n ≡ Some j = subst (λ q. now q ≡ Some j) f e in let z : ◌≡◌ {A = ℕ} 0 1 = cc in absurd (omega arith))
+              (λ (f : k ≡ n). let g : now n ≡ Some j = subst (λ q. now q ≡ Some j) f e in absurd cc)
               (λ (ne : k ≢ n).
               let w = shape.there k j (sym (off k ne) ∙ e) in
               record { place = w.place; stands = without_other n t.standing k ne ∙ w.stands; row = w.row; passes = w.passes })

@@ -8,6 +8,7 @@ use Rattle.catalogue.specs.Ranges.{Holds, HoldsO, Within, WithinO}
 use Rattle.sheet.specs.declared.lines.Line.{Line}
 use Rattle.sheet.specs.declared.table.State.{State}
 use Rattle.sheet.specs.declared.table.State.TheVariants.{Settled, Open, Void}
+use Rattle.sheet.specs.declared.table.Table.{Table}
 use Rattle.sheet.specs.Calls.{is_void}
 use Rattle.promise.specs.Histories.{Call, strike, enter, after, limits_of, line_at, HasLine}
 use Rattle.promise.specs.Promise.{Ranges, Assignment, given_to, Consistent, Inside, InLimits, Keeps, Shows, SameLines, SameLimits, Alike, Rests, Promise, ForEveryCatalogue, settles, Consequences}
@@ -33,7 +34,7 @@ not_void Open h = refl
 not_void Void h = absurd (h refl)
 
 settled_on : {s : State} → s ≡ Settled → s ≡ Void → ⊥
-settled_on {s} e f = let z : ◌≡◌ {A = ℕ} 0 1 = cc in omega arith
+settled_on {s} e f = cc
 
 -- ---- an assignment as a set of ranges of one reading each
 abbrev point : Assignment → Ranges
@@ -138,6 +139,10 @@ module _ (m : Meaning) (laws : Laws m) where
   pub promise_kept : Promise m
   promise_kept = record { shows = shown; alike = same_rest }
 
+  -- what a table that a history leads to shows
+  pub shows_after : (t : Table) (h : List Call) → t ≡ after m h → Shows m h t
+  shows_after t h e = subst (Shows m h) (sym e) (shown h)
+
   -- ---- consequences
 
   -- settles change neither limits nor lines
@@ -193,10 +198,10 @@ module _ (m : Meaning) (laws : Laws m) where
     }
       where
         taken : (j : Line) → line_at (strike n ∷ h) k ≡ Some j → ⊥
-        taken j e = let z : ◌≡◌ {A = ℕ} 0 1 = cc in omega arith
+        taken j e = cc
 
         gone : (j : Line) → line_at (strike n ∷ h) n ≡ Some j → ⊥
-        gone j e = let o = striking_own n (line_at h) in let z : ◌≡◌ {A = ℕ} 0 1 = cc in omega arith
+        gone j e = let o = striking_own n (line_at h) in cc
 
     pub struck_and_entered_anywhere : (bs : List ℕ) → Rests m h → Rests m (settles bs moved) → Alike (after m h) (after m (settles bs moved))
     struck_and_entered_anywhere bs rh rk = same_rest h (settles bs moved) rh rk

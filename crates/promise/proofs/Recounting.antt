@@ -16,7 +16,7 @@ use Rattle.sheet.specs.Places.{has, none}
 use Rattle.promise.specs.Promise.{Ranges}
 use Rattle.sheet.specs.Rules.{no_range, new_table, entered, struck, settled}
 use Rattle.promise.proofs.Changing.{limited_sound, entered_sound, struck_sound}
-use Rattle.promise.proofs.Indexes.{new_indexed, get_or_same}
+use Rattle.promise.proofs.Indexes.{new_indexed}
 use Rattle.sheet.proofs.PlaceSets.{none_has}
 use Rattle.promise.proofs.Sounds.{Drawn, Shape, Sound}
 use Rattle.promise.proofs.Stepping.{line_of, settled_sound}
@@ -33,8 +33,8 @@ module _ (m : Meaning) (laws : Laws m) where
   new_shape : Shape no_lines (new_table m)
   new_shape = record {
     indexed = new_indexed m;
-    named = λ r n lt e. absurd (both_ways (has (get_or (replicate 32 none) r none) n) (ap (λ p. has p n) (get_or_same 32 r) ∙ none_has none refl n) e);
-    there = λ n l e. let z : ◌≡◌ {A = ℕ} 0 1 = cc in absurd (omega arith);
+    named = λ r n lt e. absurd (both_ways (has (get_or (replicate 32 none) r none) n) (ap (λ p. has p n) (get_or-replicate 32 r none none lt) ∙ none_has none refl n) e);
+    there = λ n l e. absurd cc;
     free = λ n _. none_has none refl n;
   }
 
@@ -54,7 +54,7 @@ module _ (m : Meaning) (laws : Laws m) where
       kept = λ σ c r lt. subst (Within (σ r)) (sym (new_at r lt)) (c.limits r lt);
       proper = λ r lt. subst Proper (sym (new_at r lt)) laws.ends;
       within = λ r lt. subst (λ v. Within v (all_readings m)) (sym (new_at r lt)) (within_self (all_readings m));
-      quiet = λ k l _ e _. let z : ◌≡◌ {A = ℕ} 0 1 = cc in absurd (omega arith);
+      quiet = λ k l _ e _. absurd cc;
     };
     void = λ h. absurd (both_ways false refl h);
   }
@@ -67,12 +67,12 @@ module _ (m : Meaning) (laws : Laws m) where
     pub readings : Within b (all_readings m)
 
   read_right : (r low high : ℕ) → r < 32 → (l h : Option ℤ) → m.reads low ≡ l → m.reads high ≡ h → (b : Range) → limits_read l h ≡ Ok b → Right r b
-  read_right r low high lt None h el eh b e = let z : ◌≡◌ {A = ℕ} 0 1 = cc in absurd (omega arith)
-  read_right r low high lt (Some l) None el eh b e = let z : ◌≡◌ {A = ℕ} 0 1 = cc in absurd (omega arith)
+  read_right r low high lt None h el eh b e = absurd cc
+  read_right r low high lt (Some l) None el eh b e = absurd cc
   read_right r low high lt (Some l) (Some h) el eh b e =
       let made : Range = record { low = l; high = h } in
       ⊎_elim
-      (λ d. let f = sym (cond-true (lt_z h l) (Err 3) (Ok made) d) ∙ e in let z : ◌≡◌ {A = ℕ} 0 1 = cc in absurd (omega arith))
+      (λ d. let f = sym (cond-true (lt_z h l) (Err 3) (Ok made) d) ∙ e in absurd cc)
       (λ d. let f = sym (cond-false (lt_z h l) (Err 3) (Ok made) d) ∙ e in
       let same : made ≡ b = cc in
       let p : l ≤ℤ h = grind (arith, ints) in
@@ -81,7 +81,7 @@ module _ (m : Meaning) (laws : Laws m) where
 
   asked_right : (r low high : ℕ) (b : Range) → limit_asked m r low high ≡ Ok b → Right r b
   asked_right r low high b e = ⊎_elim
-      (λ d. let f = sym (cond-true (ltb 31 r) (Err 1) (limits_read (m.reads low) (m.reads high)) d) ∙ e in let z : ◌≡◌ {A = ℕ} 0 1 = cc in absurd (omega arith))
+      (λ d. let f = sym (cond-true (ltb 31 r) (Err 1) (limits_read (m.reads low) (m.reads high)) d) ∙ e in absurd cc)
       (λ d. let le : r ≤ 31 = ltb-false 31 r d in
       read_right r low high (omega arith) (m.reads low) (m.reads high) refl refl b (sym (cond-false (ltb 31 r) (Err 1) (limits_read (m.reads low) (m.reads high)) d) ∙ e))
       (cases_Bool (ltb 31 r))

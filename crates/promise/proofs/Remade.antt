@@ -10,7 +10,8 @@ use Rattle.sheet.specs.declared.table.Table.{Table}
 use Rattle.catalogue.specs.Meanings.{Meaning}
 use Rattle.sheet.specs.Calls.{line_table, enter_table}
 use Rattle.promise.specs.Histories.{enter, passes_check, called}
-use Rattle.sheet.specs.Lines.{kind_number, kind_of, checked_kind, checked, row_of, drawn_of}
+use Rattle.catalogue.specs.Numbers.{kind_number, kind_of}
+use Rattle.sheet.specs.Lines.{checked_kind, checked, row_of, drawn_of}
 
 pub record Passes (l : Line) : Type 0 where
   pub some : 0 < l.modes.bits

@@ -95,7 +95,7 @@ module _ (m : Meaning) (limits-to : Ranges) (at : Drawn) (n : ℕ) (l : Line) (h
 
   -- a line that stays idle is unmoved
   idle_stays : (o : Option Triple) (u : Table) → absorbed l o t ≡ Some u → All o → WithinO (Some (given l t)) o
-  idle_stays None u e w = let z : ◌≡◌ {A = ℕ} 0 1 = cc in absurd (omega arith)
+  idle_stays None u e w = absurd cc
   idle_stays (Some s) u e w = (w.0.0.1, w.0.1, w.1)
 
   module _ (laws : Laws m) (p : Passes l) (on : On t) where
@@ -179,12 +179,12 @@ module _ (m : Meaning) (laws : Laws m) (limits-to : Ranges) (at : Drawn) where
       let below : (k : ℕ) → has t.due k ≡ true → k < 64 = λ k d. let f = line_of at t on.shape k (on.due k d) in (on.shape.there k f.0 f.1).place in
       line_sound t sound live n (lowest_in t.due n below e)
 
-  react_step_sound : (t : Table) → Good t → (s : State) → t.state ≡ s → Good (reacted m s Step 0 t)
+  react_step_sound : (t : Table) → Good t → (s : State) → t.state ≡ s → Good (reacted m s Step t)
   react_step_sound t sound Settled e = sound
   react_step_sound t sound Open e = step_at_sound t sound (ap is_void e) (lowest t.due) refl
   react_step_sound t sound Void e = sound
 
   pub settled_sound : (b : ℕ) (t : Table) → Good t → Good (settled m b t).table
   settled_sound zero t sound = sound
-  settled_sound (suc b) t sound = cond_both (at_rest t.state) record { table = t; steps = 0 } (after_steps 1 (settled m b (reacted m t.state Step 0 t))) (λ a. Good a.table)
-      (λ _. sound) (λ _. settled_sound b (reacted m t.state Step 0 t) (react_step_sound t sound t.state refl))
+  settled_sound (suc b) t sound = cond_both (at_rest t.state) record { table = t; steps = 0 } (after_steps 1 (settled m b (reacted m t.state Step t))) (λ a. Good a.table)
+      (λ _. sound) (λ _. settled_sound b (reacted m t.state Step t) (react_step_sound t sound t.state refl))

@@ -12,7 +12,7 @@ use catalogue::types::Refusal;
 use sheet::sheet::Sheet;
 
 /// A register's range by the patterns of its ends, and whether the sheet is settled.
-#[derive(Clone, Copy)]
+#[derive(Clone, Copy, Debug, PartialEq, Eq)]
 pub struct Shown {
     pub low: u32,
     pub high: u32,

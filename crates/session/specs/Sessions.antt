@@ -11,7 +11,8 @@ use Rattle.sheet.specs.Calls.{done, drawn_asked, drawn_table, limit_asked, limit
 use Rattle.promise.specs.Histories.{Call, limit, enter, strike, settle, look, partner, after}
 use Rattle.promise.specs.Promise.{Shows}
 use Rattle.promise.specs.Shown.{show_asked}
-use Rattle.sheet.specs.Lines.{checked, kind_number}
+use Rattle.catalogue.specs.Numbers.{kind_number}
+use Rattle.sheet.specs.Lines.{checked}
 use Rattle.sheet.specs.Rules.{new_table}
 use Rattle.words.specs.Lines.{lines}
 use Rattle.words.specs.Words.{front, back}

@@ -22,7 +22,6 @@ use catalogue::types::Refusal;
 use commands::{Command, read};
 use counters::counter::Counter;
 use promise::show;
-use sheet::kind_number;
 use sheet::lines::DrawnLine;
 use sheet::sheet::Sheet;
 use std::alloc::{AllocError, Global};
@@ -117,7 +116,7 @@ fn carry_out<C: Catalogue>(sheet: &mut Sheet<C>, command: Command) -> Answer
                 sheet,
                 place,
                 DrawnLine {
-                    kind: u32::from(kind_number(kind)),
+                    kind: u32::from(u8::from(kind)),
                     modes,
                     x,
                     y,

@@ -1,33 +1,29 @@
 -- Steps, one after another: what each turn of a settle's loop adds, and what holds of the steps in all.
-use Rattle.std.proofs.Common.{◌≡◌, ℕ, zero, suc, ◌+◌, ◌-◌, ◌<◌, ◌≤◌, true, false, refl, ap, ◌∙◌, arith}
-use Rattle.std.proofs.lemmas.Bool.{cond-true, cond-false, cond_both, both_ways}
+use Rattle.std.proofs.Common.{◌≡◌, ℕ, zero, suc, ◌+◌, ◌-◌, ◌<◌, false, sym, refl, ap, ◌∙◌, arith}
+use Rattle.std.proofs.lemmas.Bool.{cond-false, cond_both, both_ways}
 use Rattle.catalogue.specs.Meanings.{Meaning}
 use Rattle.sheet.specs.declared.table.Event.TheVariants.{Step}
 use Rattle.sheet.specs.declared.table.Table.{Table}
 use Rattle.sheet.specs.Calls.{Steps}
 use Rattle.sheet.specs.Rules.{Settling, after_steps, settled, reacted, at_rest}
 
-abbrev pub settling : Table → ℕ → Settling
+abbrev settling : Table → ℕ → Settling
 settling t n = record { table = t; steps = n }
-
-pub after_none : (a : Settling) → after_steps 0 a ≡ a
-after_none a = ap (settling a.table) (omega arith)
-
-pub after_more : (n : ℕ) (a : Settling) → after_steps n (after_steps 1 a) ≡ after_steps (n + 1) a
-after_more n a = ap (settling a.table) (omega arith)
 
 module _ (m : Meaning) where
   abbrev pub next : Table → Table
-  next t = reacted m t.state Step 0 t
+  next t = reacted m t.state Step t
 
-  pub settled_rest : (b : ℕ) (t : Table) → at_rest t.state ≡ true → settled m b t ≡ settling t 0
-  settled_rest zero t h = refl
-  settled_rest (suc b) t h = cond-true (at_rest t.state) (settling t 0) (after_steps 1 (settled m b (next t))) h
-
-  pub settled_on : (b k : ℕ) (t : Table) → k < b → at_rest t.state ≡ false → settled m (b - k) t ≡ after_steps 1 (settled m (b - (k + 1)) (next t))
+  settled_on : (b k : ℕ) (t : Table) → k < b → at_rest t.state ≡ false → settled m (b - k) t ≡ after_steps 1 (settled m (b - (k + 1)) (next t))
   settled_on b k t lt h =
       let e : b - k ≡ suc (b - (k + 1)) = omega arith in
       ap (λ n. settled m n t) e ∙ cond-false (at_rest t.state) (settling t 0) (after_steps 1 (settled m (b - (k + 1)) (next t))) h
+
+  -- one turn of the loop, from the table t to u, after k steps of the whole, which is a
+  pub settled_turn : (b k : ℕ) (t u : Table) (a : Settling) → a ≡ after_steps k (settled m (b - k) t) → k < b → at_rest t.state ≡ false → u ≡ next t → a ≡ after_steps (k + 1) (settled m (b - (k + 1)) u)
+  settled_turn b k t u a e lt h n =
+      e ∙ ap (after_steps k) (settled_on b k t lt h)
+      ∙ ap (settling _) (omega arith) ∙ ap (λ v. after_steps (k + 1) (settled m (b - (k + 1)) v)) (sym n)
 
   -- steps in words
   pub settled_steps : (b : ℕ) (t : Table) → Steps b t (settled m b t)
@@ -35,6 +31,3 @@ module _ (m : Meaning) where
   settled_steps (suc b) t = cond_both (at_rest t.state) (settling t 0) (after_steps 1 (settled m b (next t))) (Steps (suc b) t)
       (λ e. record { within = omega arith; at_once = λ _. (refl, refl); spent = λ o. absurd (both_ways (at_rest t.state) (ap at_rest o) e) })
       (λ e. let h = settled_steps b (next t) in record { within = omega (arith, h.within); at_once = λ r. absurd (both_ways (at_rest t.state) e r); spent = λ o. omega (arith, h.spent o) })
-
-  pub settled_out : (b k : ℕ) (t : Table) → b ≤ k → settled m (b - k) t ≡ settling t 0
-  settled_out b k t le = let e : b - k ≡ 0 = omega arith in ap (λ n. settled m n t) e

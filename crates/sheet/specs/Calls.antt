@@ -3,6 +3,7 @@
 use Rattle.std.specs.Prelude.{◌≡◌, ℕ, ◌≤◌, Bool, true, false, cond, not, ◌||◌, ℤ, Some, None, Ok, Err, Option, Result, ◌==◌, int_lt, nat_lt}
 use Rattle.catalogue.specs.declared.types.Range.{Range}
 use Rattle.catalogue.specs.declared.types.Refusal.{Refusal}
+use Rattle.catalogue.specs.declared.types.Refusal.TheVariants.{NoLineThere}
 use Rattle.catalogue.specs.Meanings.{Meaning}
 use Rattle.catalogue.specs.Partners.{SomeOf}
 use Rattle.catalogue.specs.Refusals.{number_of}
@@ -64,6 +65,11 @@ drawn_table m n (Ok l) t = line_table m n l t
 
 abbrev pub no_line : ℕ → Table → Bool
 no_line n t = nat_lt 63 n || not (has t.standing n)
+
+-- a number names a place where a line stands, or it is refused
+abbrev pub NamesLine : ℕ → Table → Result ℕ Refusal → Type 0
+NamesLine n t (Ok p) = (p ≡ n) × (no_line n t ≡ false)
+NamesLine n t (Err e) = (e ≡ NoLineThere) × (no_line n t ≡ true)
 
 abbrev pub strike_asked : ℕ → Table → Result (Unit {0}) ℕ
 strike_asked n t = cond (no_line n t) (Err 7) (Ok tt)

@@ -1,22 +1,13 @@
 -- Drawn lines, and what the check answers.
 use Rattle.std.specs.Prelude.{ℕ, cond, ◌||◌, Some, None, Ok, Err, Option, Result, ◌==◌, nat_lt}
 use Rattle.catalogue.specs.declared.types.Kind.{Kind}
-use Rattle.catalogue.specs.declared.types.Kind.TheVariants.{Sum, Difference, Peak}
 use Rattle.catalogue.specs.declared.types.Refusal.{Refusal}
+use Rattle.catalogue.specs.Numbers.{kind_number, kind_of}
 use Rattle.catalogue.specs.Refusals.{number_of}
 use Rattle.sheet.specs.declared.lines.CheckedLine.{CheckedLine}
 use Rattle.sheet.specs.declared.lines.DrawnLine.{DrawnLine}
 use Rattle.sheet.specs.declared.lines.Line.{Line}
 use Rattle.sheet.specs.declared.table.Row.{Row}
-
--- kinds go by number on a drawn line
-abbrev pub kind_number : Kind → ℕ
-kind_number Sum = 0
-kind_number Difference = 1
-kind_number Peak = 2
-
-abbrev pub kind_of : ℕ → Option Kind
-kind_of n = cond (n == 0) (Some Sum) (cond (n == 1) (Some Difference) (cond (n == 2) (Some Peak) None))
 
 -- the line, or why it is declined: first its kind (4), then its mode set (5), then its registers (1)
 abbrev pub checked_kind : Option Kind → DrawnLine → Result Line ℕ

@@ -6,6 +6,7 @@ use Rattle.catalogue.specs.Meanings.{Meaning, all_readings}
 use Rattle.catalogue.specs.Ranges.{meet}
 use Rattle.sheet.specs.declared.lines.Line.{Line}
 use Rattle.sheet.specs.declared.places.Places.{Places}
+use Rattle.sheet.specs.declared.table.Empty.{Empty}
 use Rattle.sheet.specs.declared.table.Event.{Event}
 use Rattle.sheet.specs.declared.table.Event.TheVariants.{Tightened, Loosened, Entered, Struck, Step}
 use Rattle.sheet.specs.declared.table.Row.{Row}
@@ -92,6 +93,11 @@ cut_table r b t = cond (smaller (meet (range_at t r) b) (range_at t r)) (changed
 abbrev pub cut : ℕ → Range → Table → Option Table
 cut r b t = cond (empty (meet (range_at t r) b)) None (Some (cut_table r b t))
 
+-- what an answer leaves of a table: the table, or nothing
+abbrev pub left : Table → Result (Unit {0}) Empty → Option Table
+left t (Ok x) = Some t
+left t (Err e) = None
+
 -- the table that is left, at rest if nothing is due; or void where nothing is left
 abbrev pub or_void : Table → Option Table → Table
 or_void t None = voided t
@@ -140,23 +146,23 @@ cut_to_limits r t = or_void t (cut r (limits_at t r) t)
 abbrev pub made_due : ℕ → Table → Table
 made_due n t = with_state Open (with_due (with_place n t.due) t)
 
--- what a table makes of an event in its state; `at` is the register or the place that the event is about
-abbrev pub reacted : Meaning → State → Event → ℕ → Table → Table
-reacted m Void Tightened at t = t
-reacted m Settled Tightened at t = cut_to_limits at t
-reacted m Open Tightened at t = cut_to_limits at t
-reacted m Void Loosened at t = returned t
-reacted m Settled Loosened at t = returned t
-reacted m Open Loosened at t = returned t
-reacted m Void Entered at t = t
-reacted m Settled Entered at t = made_due at t
-reacted m Open Entered at t = made_due at t
-reacted m Void Struck at t = returned t
-reacted m Settled Struck at t = returned t
-reacted m Open Struck at t = returned t
-reacted m Void Step at t = t
-reacted m Settled Step at t = t
-reacted m Open Step at t = step m t
+-- what a table makes of an event in its state
+abbrev pub reacted : Meaning → State → Event → Table → Table
+reacted m Void (Tightened r) t = t
+reacted m Settled (Tightened r) t = cut_to_limits r t
+reacted m Open (Tightened r) t = cut_to_limits r t
+reacted m Void Loosened t = returned t
+reacted m Settled Loosened t = returned t
+reacted m Open Loosened t = returned t
+reacted m Void (Entered n) t = t
+reacted m Settled (Entered n) t = made_due n t
+reacted m Open (Entered n) t = made_due n t
+reacted m Void Struck t = returned t
+reacted m Settled Struck t = returned t
+reacted m Open Struck t = returned t
+reacted m Void Step t = t
+reacted m Settled Step t = t
+reacted m Open Step t = step m t
 
 -- ---- limit
 
@@ -165,11 +171,11 @@ abbrev pub inside : Range → Range → Bool
 inside b a = not (int_lt b.low a.low) && not (int_lt a.high b.high)
 
 abbrev pub limit_event : ℕ → Range → Table → Event
-limit_event r b t = cond (inside b (limits_at t r)) Tightened Loosened
+limit_event r b t = cond (inside b (limits_at t r)) (Tightened r) Loosened
 
 -- register r's limits are replaced, and the table reacts
 abbrev pub limited : Meaning → ℕ → Range → Table → Table
-limited m r b t = reacted m t.state (limit_event r b t) r (with_limits (slice_set t.limits r b) t)
+limited m r b t = reacted m t.state (limit_event r b t) (with_limits (slice_set t.limits r b) t)
 
 -- ---- enter
 
@@ -182,7 +188,7 @@ abbrev pub placed : ℕ → Line → Table → Table
 placed n l t = with_naming (named n l.z (named n l.y (named n l.x t.naming))) (with_line n (row_of l) t)
 
 abbrev pub entered : Meaning → ℕ → Line → Table → Table
-entered m n l t = reacted m t.state Entered n (placed n l t)
+entered m n l t = reacted m t.state (Entered n) (placed n l t)
 
 -- ---- strike
 
@@ -200,7 +206,7 @@ abbrev pub removed : ℕ → Table → Table
 removed n t = unindexed n (checked (drawn_of (row_at t n))) (with_standing (without n t.standing) t)
 
 abbrev pub struck : Meaning → ℕ → Table → Table
-struck m n t = reacted m t.state Struck n (removed n t)
+struck m n t = reacted m t.state Struck (removed n t)
 
 -- ---- settle
 
@@ -220,7 +226,7 @@ after_steps n a = record { table = a.table; steps = n + a.steps }
 -- steps until rest, or until the budget is spent
 abbrev pub settled : Meaning → ℕ → Table → Settling
 settled m zero t = record { table = t; steps = 0 }
-settled m (suc b) t = cond (at_rest t.state) record { table = t; steps = 0 } (after_steps 1 (settled m b (reacted m t.state Step 0 t)))
+settled m (suc b) t = cond (at_rest t.state) record { table = t; steps = 0 } (after_steps 1 (settled m b (reacted m t.state Step t)))
 
 -- ---- a new table: no lines, and everything from the least to the greatest reading
 

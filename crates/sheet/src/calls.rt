@@ -1,25 +1,27 @@
-ghost use Rattle.std.specs.Prelude.{◌≡◌, ℕ, ◌<◌, ℤ};
+ghost use Rattle.std.specs.Prelude.{◌≡◌, ℕ, ℤ};
 ghost use Rattle.catalogue.specs.Refusals.{numbered};
 ghost use Rattle.sheet.specs.declared.lines.Line.{Line};
-ghost use Rattle.sheet.specs.Calls.{Partnered, Steps, bad_budget, both_read, done, ended_in, enter_answer, enter_asked, enter_table, in_patterns, is_settled, limit_asked, limit_table, look_answer, named_partner, no_line, outcome_number, partner_asked, pattern_or_none, run_answer, run_asked, settle_answer, settle_asked, settle_table, shown, strike_asked, strike_table};
-ghost use Rattle.sheet.specs.Places.{has};
+ghost use Rattle.sheet.specs.Calls.{NamesLine, Partnered, Steps, bad_budget, both_read, done, ended_in, enter_answer, enter_asked, enter_table, in_patterns, is_settled, limit_asked, limit_table, limits_read, look_answer, named_partner, outcome_number, partner_asked, pattern_or_none, settle_answer, settle_asked, settle_table, shown, strike_asked, strike_table};
 ghost use Rattle.sheet.specs.Rules.{new_table, settled, table_of};
 
 use crate::lines::CheckedLine;
-use crate::places::Places;
+use crate::places::{Place, Places};
+use crate::registers::Register;
 use crate::sheet::{Look, Sheet};
 use crate::table::{Outcome, Row, State, Table};
 use catalogue::interface::Catalogue;
 use catalogue::types::{Range, Refusal};
 
 /// How a settle that leaves a state ended.
-fn outcome(state: State) -> Outcome
-    ensures { outcome_number result ≡ ended_in state }
-{
-    match state {
-        State::Settled => Outcome::Settled,
-        State::Open => Outcome::Stopped,
-        State::Void => Outcome::Void,
+impl From<State> for Outcome {
+    ghost from_gives = { λ s o. outcome_number o ≡ ended_in s };
+
+    fn from(state: State) -> Outcome {
+        match state {
+            State::Settled => Outcome::Settled,
+            State::Open => Outcome::Stopped,
+            State::Void => Outcome::Void,
+        }
     }
 }
 
@@ -45,19 +47,11 @@ impl Table {
                 y: 0,
                 z: 0,
             }; 64],
-            standing: Places { bits: 0 },
-            naming: [Places { bits: 0 }; 32],
-            due: Places { bits: 0 },
+            standing: Places::none(),
+            naming: [Places::none(); 32],
+            due: Places::none(),
             state: State::Settled,
         }
-    }
-
-    /// Whether a line stands at a place, among those that there are.
-    fn is_taken(&self, place: u32) -> bool
-        requires { place < 64 }
-        ensures { result ≡ has self.now.standing place }
-    {
-        self.standing.has(place as u8)
     }
 }
 
@@ -71,13 +65,10 @@ impl<C: Catalogue> Sheet<C> {
         Sheet { catalogue, table }
     }
 
-    /// The limits that a call of limit asks for, or why it is declined.
-    fn limits(&self, register: u32, low: u32, high: u32) -> Result<Range, Refusal>
-        ensures { numbered result ≡ limit_asked (C.meaning self.now.catalogue) register low high }
+    /// The range from one pattern to another, or why it is no range of readings.
+    fn limits(&self, low: u32, high: u32) -> Result<Range, Refusal>
+        ensures { numbered result ≡ limits_read ((C.meaning self.now.catalogue).reads low) ((C.meaning self.now.catalogue).reads high) }
     {
-        if register > 31 {
-            return Err(Refusal::NoSuchRegister);
-        }
         let low = self.catalogue.rank(low)?;
         let high = self.catalogue.rank(high)?;
         if high < low {
@@ -92,8 +83,9 @@ impl<C: Catalogue> Sheet<C> {
         ensures table { self.new.table ≡ limit_table (C.meaning self.old.catalogue) register (limit_asked (C.meaning self.old.catalogue) register low high) self.old.table }
         ensures catalogue { self.new.catalogue ≡ self.old.catalogue }
     {
-        let limits = self.limits(register, low, high)?;
-        self.table.limit(&self.catalogue, register as u8, limits);
+        let register = Register::try_from(register)?;
+        let limits = self.limits(low, high)?;
+        self.table.limit(&self.catalogue, register, limits);
         Ok(())
     }
 
@@ -103,21 +95,24 @@ impl<C: Catalogue> Sheet<C> {
         ensures table { self.new.table ≡ enter_table (C.meaning self.old.catalogue) place line self.old.table }
         ensures catalogue { self.new.catalogue ≡ self.old.catalogue }
     {
-        if place > 63 {
-            return Err((Refusal::NoLineThere, line));
-        }
-        if self.table.is_taken(place) {
+        let place = match Place::try_from(place) {
+            Ok(place) => place,
+            Err(refusal) => return Err((refusal, line)),
+        };
+        if self.table.standing.has(place) {
             return Err((Refusal::PlaceTaken, line));
         }
-        self.table.enter(&self.catalogue, place as u8, line);
+        self.table.enter(&self.catalogue, place, line);
         Ok(())
     }
 
-    /// Whether no line stands at a place, or there is no such place.
-    fn has_no_line(&self, place: u32) -> bool
-        ensures { result ≡ no_line place self.now.table }
+    /// The place that a number names, if a line stands there.
+    fn place_of_line(&self, number: u32) -> Result<Place, Refusal>
+        ensures { NamesLine number self.now.table result }
     {
-        place > 63 || !self.table.standing.has(place as u8)
+        let place = Place::try_from(number)?;
+        let stands = self.table.standing.has(place);
+        stands.then_some(place).ok_or(Refusal::NoLineThere)
     }
 
     /// Removes the line at a place; all ranges return to the limits, and the remaining lines are due.
@@ -126,10 +121,8 @@ impl<C: Catalogue> Sheet<C> {
         ensures table { self.new.table ≡ strike_table (C.meaning self.old.catalogue) place self.old.table }
         ensures catalogue { self.new.catalogue ≡ self.old.catalogue }
     {
-        if self.has_no_line(place) {
-            return Err(Refusal::NoLineThere);
-        }
-        self.table.strike(&self.catalogue, place as u8);
+        let place = self.place_of_line(place)?;
+        self.table.strike(&self.catalogue, place);
         Ok(())
     }
 
@@ -140,54 +133,20 @@ impl<C: Catalogue> Sheet<C> {
         Ok((self.catalogue.rank(x)?, self.catalogue.rank(z)?))
     }
 
-    /// Some y of a line's shown range that makes an allowed triple with x and z, as a pattern.
-    fn partner_of(&self, checked: &CheckedLine, x: i32, z: i32) -> Option<u32>
-        ensures { result ≡ pattern_or_none (C.meaning self.now.catalogue) (named_partner (C.meaning self.now.catalogue) checked.now.line (x, z) self.now.table) }
-    {
-        let line = checked.line;
-        let y = self.table.ranges[line.y as usize];
-        match self.catalogue.partner(line.kind, line.modes, x, z, y) {
-            Some(rank) => Some(self.catalogue.pattern(rank)),
-            None => None,
-        }
-    }
-
-    /// The partner that the catalogue names, or why the call is declined.
-    fn named_partner(&self, place: u32, x: u32, z: u32) -> Result<Option<u32>, Refusal>
-        ensures { numbered result ≡ partner_asked (C.meaning self.now.catalogue) place x z self.now.table }
-    {
-        if self.has_no_line(place) {
-            return Err(Refusal::NoLineThere);
-        }
-        let Ok(line) = self.table.rows[place as usize].drawn().check() else {
-            return Err(Refusal::NoLineThere);
-        };
-        let (x, z) = self.ranks(x, z)?;
-        if let State::Void = self.table.state {
-            return Err(Refusal::SheetVoid);
-        }
-        Ok(self.partner_of(&line, x, z))
-    }
-
     /// Some y in the shown range of a line's y that makes an allowed triple with the patterns x and z, or none.
     pub fn partner(&self, place: u32, x: u32, z: u32) -> Result<Option<u32>, Refusal>
         ensures answer { numbered result ≡ partner_asked (C.meaning self.now.catalogue) place x z self.now.table }
         ensures choice { (l : Line) (p : ℤ × ℤ) → Partnered (C.meaning self.now.catalogue) l p self.now.table }
     {
-        self.named_partner(place, x, z)
-    }
-
-    /// Steps until rest or until the budget is spent, whatever the budget.
-    fn run(&mut self, budget: u32) -> (Outcome, u32)
-        ensures answer { run_answer result ≡ run_asked (settled (C.meaning self.old.catalogue) budget self.old.table) }
-        ensures table { self.new.table ≡ (settled (C.meaning self.old.catalogue) budget self.old.table).table }
-        ensures catalogue { self.new.catalogue ≡ self.old.catalogue }
-    {
-        let steps = self.table.settle(&self.catalogue, budget);
-        (outcome(self.table.state), steps)
+        let place = self.place_of_line(place)?;
+        let line = self.table.line_at(place).map_err(|_| Refusal::NoLineThere)?;
+        let (x, z) = self.ranks(x, z)?;
+        let look = self.look()?;
+        Ok(look.partner_of(&line, x, z))
     }
 
     /// Steps until rest or until the budget is spent: how it ended, and how many steps were made.
+    #[tactic(auto, using(crate::proofs::Settles::settled_steps))]
     pub fn settle(&mut self, budget: u32) -> Result<(Outcome, u32), Refusal>
         ensures answer { settle_answer result ≡ settle_asked (C.meaning self.old.catalogue) budget self.old.table }
         ensures table { self.new.table ≡ settle_table (C.meaning self.old.catalogue) budget self.old.table }
@@ -197,7 +156,8 @@ impl<C: Catalogue> Sheet<C> {
         if is_bad_budget(budget) {
             return Err(Refusal::BudgetOutOfRange);
         }
-        Ok(self.run(budget))
+        let steps = self.table.settle(&self.catalogue, budget);
+        Ok((Outcome::from(self.table.state), steps))
     }
 
     /// A look at the sheet, which shows nothing while it is void.
@@ -216,10 +176,8 @@ impl<C: Catalogue> Look<'_, C> {
     pub fn range(&self, register: u32) -> Result<Range, Refusal>
         ensures { numbered result ≡ shown register self.now.sheet.now.table }
     {
-        if register > 31 {
-            return Err(Refusal::NoSuchRegister);
-        }
-        Ok(self.sheet.table.ranges[register as usize])
+        let register = Register::try_from(register)?;
+        Ok(self.sheet.table.ranges[register.index()])
     }
 
     /// A register's range by the patterns of its low and its high end.
@@ -235,9 +193,18 @@ impl<C: Catalogue> Look<'_, C> {
     pub fn is_settled(&self) -> bool
         ensures { result ≡ is_settled self.now.sheet.now.table.state }
     {
-        match self.sheet.table.state {
-            State::Settled => true,
-            State::Open | State::Void => false,
-        }
+        matches!(self.sheet.table.state, State::Settled)
+    }
+
+    /// Some y of a line's shown range that makes an allowed triple with x and z, as a pattern.
+    fn partner_of(&self, checked: &CheckedLine, x: i32, z: i32) -> Option<u32>
+        ensures { result ≡ pattern_or_none (C.meaning self.now.sheet.now.catalogue) (named_partner (C.meaning self.now.sheet.now.catalogue) checked.now.line (x, z) self.now.sheet.now.table) }
+    {
+        let line = checked.line;
+        let y = self.sheet.table.ranges[line.y.index()];
+        self.sheet
+            .catalogue
+            .partner(line.kind, line.modes, x, z, y)
+            .map(|rank| self.sheet.catalogue.pattern(rank))
     }
 }

@@ -1,88 +1,67 @@
 ghost use Rattle.std.specs.Prelude.{◌≡◌};
-ghost use Rattle.sheet.specs.Lines.{check_answer, checked, drawn_of, kind_number, kind_of, row_of};
+ghost use Rattle.sheet.specs.Lines.{check_answer, checked, drawn_of, row_of};
+ghost use Rattle.sheet.specs.Rules.{row_at};
 
 use crate::lines::{CheckedLine, DrawnLine, Line};
-use crate::table::Row;
+use crate::places::Place;
+use crate::registers::Register;
+use crate::table::{Row, Table};
 use catalogue::types::{Kind, Modes, Refusal};
-
-/// The kind that a number stands for.
-fn kind_of(number: u32) -> Option<Kind>
-    ensures { result ≡ kind_of number }
-{
-    match number {
-        0 => Some(Kind::Sum),
-        1 => Some(Kind::Difference),
-        2 => Some(Kind::Peak),
-        _ => None,
-    }
-}
-
-/// The number of a kind.
-pub fn kind_number(kind: Kind) -> u8
-    ensures { result ≡ kind_number kind }
-{
-    match kind {
-        Kind::Sum => 0,
-        Kind::Difference => 1,
-        Kind::Peak => 2,
-    }
-}
 
 impl DrawnLine {
     /// The checked line, or why it is declined: its kind, then its mode set, then its registers.
     pub fn check(self) -> Result<CheckedLine, Refusal>
         ensures { check_answer result ≡ checked self }
     {
-        let Some(kind) = kind_of(self.kind) else {
-            return Err(Refusal::NoSuchKind);
-        };
-        if self.modes == 0 || self.modes > 15 {
-            return Err(Refusal::NoSuchModes);
-        }
-        if self.x > 31 || self.y > 31 || self.z > 31 {
-            return Err(Refusal::NoSuchRegister);
-        }
-        let modes = Modes {
-            bits: self.modes as u8,
-        };
+        let kind = Kind::try_from(self.kind)?;
+        let modes = Modes::try_from(self.modes)?;
         Ok(CheckedLine {
             line: Line {
                 kind,
                 modes,
-                x: self.x as u8,
-                y: self.y as u8,
-                z: self.z as u8,
+                x: Register::try_from(self.x)?,
+                y: Register::try_from(self.y)?,
+                z: Register::try_from(self.z)?,
             },
         })
     }
 }
 
-impl Line {
-    /// The line as plain numbers.
-    pub(crate) fn row(self) -> Row
-        ensures { result ≡ row_of self }
-    {
+/// The line as plain numbers.
+impl From<Line> for Row {
+    ghost from_gives = { λ l w. w ≡ row_of l };
+
+    fn from(line: Line) -> Row {
         Row {
-            kind: kind_number(self.kind),
-            modes: self.modes.bits,
-            x: self.x,
-            y: self.y,
-            z: self.z,
+            kind: u8::from(line.kind),
+            modes: line.modes.bits,
+            x: u8::from(line.x),
+            y: u8::from(line.y),
+            z: u8::from(line.z),
         }
     }
 }
 
-impl Row {
-    /// The row as a drawn line, for the check to make a line of it again.
-    pub(crate) fn drawn(self) -> DrawnLine
-        ensures { result ≡ drawn_of self }
-    {
+/// The row as a drawn line, for the check to make a line of it again.
+impl From<Row> for DrawnLine {
+    ghost from_gives = { λ w d. d ≡ drawn_of w };
+
+    fn from(row: Row) -> DrawnLine {
         DrawnLine {
-            kind: self.kind as u32,
-            modes: self.modes as u32,
-            x: self.x as u32,
-            y: self.y as u32,
-            z: self.z as u32,
+            kind: u32::from(row.kind),
+            modes: u32::from(row.modes),
+            x: u32::from(row.x),
+            y: u32::from(row.y),
+            z: u32::from(row.z),
         }
+    }
+}
+
+impl Table {
+    /// The line at a place, made again from its row by the check.
+    pub(crate) fn line_at(&self, place: Place) -> Result<CheckedLine, Refusal>
+        ensures { check_answer result ≡ checked (drawn_of (row_at self.now place)) }
+    {
+        DrawnLine::from(self.rows[place.index()]).check()
     }
 }

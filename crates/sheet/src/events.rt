@@ -1,101 +1,94 @@
-ghost use Rattle.std.specs.Prelude.{◌≡◌, ◌<◌, Ok};
-ghost use Rattle.sheet.specs.Events.{Fitting};
+ghost use Rattle.std.specs.Prelude.{◌≡◌, Ok};
 ghost use Rattle.sheet.specs.Rules.{at_rest, entered, limit_event, limited, named, placed, reacted, removed, settled, struck, unindexed, unnamed, with_naming};
 
 use crate::lines::{CheckedLine, Line};
+use crate::places::Place;
+use crate::registers::Register;
 use crate::rules::lies_inside;
-use crate::table::{Event, State, Table};
+use crate::table::{Event, Row, State, Table};
 use catalogue::interface::Catalogue;
 use catalogue::types::Range;
 
-/// Whether a state is at rest.
-fn is_at_rest(state: State) -> bool
-    ensures { result ≡ at_rest state }
-{
-    match state {
-        State::Settled | State::Void => true,
-        State::Open => false,
+impl State {
+    fn is_at_rest(self) -> bool
+        ensures { result ≡ at_rest self }
+    {
+        matches!(self, State::Settled | State::Void)
     }
 }
 
 impl Table {
-    /// What the table makes of an event in the state that it is in; `at` is the register or the place that it is about.
-    fn react<C: Catalogue>(&mut self, catalogue: &C, event: Event, at: u8)
-        requires { Fitting event at }
-        ensures { self.new ≡ reacted (C.meaning catalogue.now) self.old.state event at self.old }
+    /// What the table makes of an event in the state that it is in.
+    fn react<C: Catalogue>(&mut self, catalogue: &C, event: Event)
+        ensures { self.new ≡ reacted (C.meaning catalogue.now) self.old.state event self.old }
     {
-        match (self.state, event) {
-            (State::Void, Event::Tightened | Event::Entered | Event::Step) => {}
+        // The event is lent, since the proof reads nothing out of an event that a tuple holds itself.
+        match (self.state, &event) {
+            (State::Void, Event::Tightened(_) | Event::Entered(_) | Event::Step) => {}
             (State::Settled, Event::Step) => {}
-            (State::Settled | State::Open, Event::Tightened) => self.cut_to_limits(at),
-            (State::Settled | State::Open, Event::Entered) => self.make_due(at),
             (State::Open, Event::Step) => self.step(catalogue),
+            (_, Event::Tightened(register)) => self.cut_to_limits(*register),
+            (_, Event::Entered(place)) => self.make_due(*place),
             (_, Event::Loosened | Event::Struck) => self.return_to_limits(),
         }
     }
 
     /// Which event new limits of a register are.
-    fn limit_event(&self, register: u8, limits: Range) -> Event
-        requires { register < 32 }
+    fn limit_event(&self, register: Register, limits: Range) -> Event
         ensures { result ≡ limit_event register limits self.now }
     {
-        if lies_inside(limits, self.limits[register as usize]) {
-            Event::Tightened
+        if lies_inside(limits, self.limits[register.index()]) {
+            Event::Tightened(register)
         } else {
             Event::Loosened
         }
     }
 
     /// Replaces a register's limits.
-    pub(crate) fn limit<C: Catalogue>(&mut self, catalogue: &C, register: u8, limits: Range)
-        requires { register < 32 }
+    pub(crate) fn limit<C: Catalogue>(&mut self, catalogue: &C, register: Register, limits: Range)
         ensures { self.new ≡ limited (C.meaning catalogue.now) register limits self.old }
     {
         let event = self.limit_event(register, limits);
-        self.limits[register as usize] = limits;
-        self.react(catalogue, event, register);
+        self.limits[register.index()] = limits;
+        self.react(catalogue, event);
     }
 
     /// Notes that the line at a place names a register.
-    fn name(&mut self, place: u8, register: u8)
-        requires { (place < 64) × (register < 32) }
+    fn name(&mut self, place: Place, register: Register)
         ensures { self.new ≡ with_naming (named place register self.old.naming) self.old }
     {
-        self.naming[register as usize] = self.naming[register as usize].with(place);
+        self.naming[register.index()] = self.naming[register.index()].with(place);
     }
 
     /// Puts a line at a place.
-    fn put(&mut self, place: u8, line: Line)
-        requires { (place < 64) × ((line.x < 32) × (line.y < 32) × (line.z < 32)) }
+    fn put(&mut self, place: Place, line: Line)
         ensures { self.new ≡ placed place line self.old }
     {
-        self.rows[place as usize] = line.row();
+        let Line { x, y, z, .. } = line;
+        self.rows[place.index()] = Row::from(line);
         self.standing = self.standing.with(place);
-        self.name(place, line.x);
-        self.name(place, line.y);
-        self.name(place, line.z);
+        self.name(place, x);
+        self.name(place, y);
+        self.name(place, z);
     }
 
     /// Enters a checked line at a free place.
-    pub(crate) fn enter<C: Catalogue>(&mut self, catalogue: &C, place: u8, checked: CheckedLine)
-        requires { place < 64 }
+    pub(crate) fn enter<C: Catalogue>(&mut self, catalogue: &C, place: Place, checked: CheckedLine)
         ensures { self.new ≡ entered (C.meaning catalogue.now) place checked.line self.old }
     {
         self.put(place, checked.line);
-        self.react(catalogue, Event::Entered, place);
+        self.react(catalogue, Event::Entered(place));
     }
 
     /// Notes that the line at a place names a register no longer.
-    fn unname(&mut self, place: u8, register: u8)
-        requires { (place < 64) × (register < 32) }
+    fn unname(&mut self, place: Place, register: Register)
         ensures { self.new ≡ with_naming (unnamed place register self.old.naming) self.old }
     {
-        self.naming[register as usize] = self.naming[register as usize].without(place);
+        self.naming[register.index()] = self.naming[register.index()].without(place);
     }
 
     /// Takes the registers of a checked line out of the index.
-    fn unname_line(&mut self, place: u8, checked: &CheckedLine)
-        requires { place < 64 }
+    fn unname_line(&mut self, place: Place, checked: &CheckedLine)
         ensures { self.new ≡ unindexed place (Ok checked.now.line) self.old }
     {
         self.unname(place, checked.line.x);
@@ -104,34 +97,33 @@ impl Table {
     }
 
     /// Removes the line at a place.
-    fn remove(&mut self, place: u8)
-        requires { place < 64 }
+    fn remove(&mut self, place: Place)
         ensures { self.new ≡ removed place self.old }
     {
         self.standing = self.standing.without(place);
-        if let Ok(line) = self.rows[place as usize].drawn().check() {
+        if let Ok(line) = self.line_at(place) {
             self.unname_line(place, &line);
         }
     }
 
     /// Strikes the line at a place.
-    pub(crate) fn strike<C: Catalogue>(&mut self, catalogue: &C, place: u8)
-        requires { place < 64 }
+    pub(crate) fn strike<C: Catalogue>(&mut self, catalogue: &C, place: Place)
         ensures { self.new ≡ struck (C.meaning catalogue.now) place self.old }
     {
         self.remove(place);
-        self.react(catalogue, Event::Struck, place);
+        self.react(catalogue, Event::Struck);
     }
 
     /// Steps until rest, or until the budget is spent; answers how many steps were made.
+    #[tactic(auto, using(crate::proofs::Settles::settled_turn))]
     pub(crate) fn settle<C: Catalogue>(&mut self, catalogue: &C, budget: u32) -> u32
         ensures { settled (C.meaning catalogue.now) budget self.old ≡ record { table = self.new; steps = result } }
     {
         for made in 0..budget {
-            if is_at_rest(self.state) {
+            if self.state.is_at_rest() {
                 return made;
             }
-            self.react(catalogue, Event::Step, 0);
+            self.react(catalogue, Event::Step);
         }
         budget
     }

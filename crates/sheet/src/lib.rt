@@ -1,14 +1,11 @@
 #![tactic(auto)]
 
+mod calls;
 mod checks;
+mod events;
 pub mod lines;
 pub mod places;
+pub mod registers;
+mod rules;
 pub mod sheet;
 pub mod table;
-
-pub use crate::checks::kind_number;
-
-mod calls;
-mod events;
-mod rules;
-mod sets;

@@ -1,9 +1,10 @@
 ghost use Rattle.std.specs.Prelude.{◌<◌};
 
+use crate::registers::Register;
 use catalogue::types::{Kind, Modes};
 
 /// A line as it was drawn: any kind, mode set and registers.
-#[derive(Drop)]
+#[derive(Debug, PartialEq, Eq, Drop)]
 pub struct DrawnLine {
     pub kind: u32,
     pub modes: u32,
@@ -17,9 +18,9 @@ pub struct DrawnLine {
 pub struct Line {
     pub kind: Kind,
     pub modes: Modes,
-    pub x: u8,
-    pub y: u8,
-    pub z: u8,
+    pub x: Register,
+    pub y: Register,
+    pub z: Register,
 }
 
 /// A line that passed the check. Only such a line can be entered, and entering uses it up.
@@ -28,6 +29,7 @@ pub struct CheckedLine {
     pub(crate) line: Line,
     ghost some_mode: { 0 < line.modes.bits },
     ghost no_other_mode: { line.modes.bits < 16 },
+    // A clause sees a register as its number, so what the type says of each is said again here, for those who read clauses.
     ghost x_exists: { line.x < 32 },
     ghost y_exists: { line.y < 32 },
     ghost z_exists: { line.z < 32 },

@@ -1,5 +1,125 @@
+ghost use Rattle.std.specs.Prelude.{◌≡◌, ◌<◌};
+
+use catalogue::types::Refusal;
+use std::marker::Model;
+
+/// One of a sheet's 64 places for lines.
+#[derive(Clone, Copy, Debug, PartialEq, Eq)]
+pub struct Place {
+    number: u8,
+}
+
+impl Model for Place {
+    ghost use Rattle.std.specs.Prelude.{ℕ, ◌<◌};
+
+    ghost Value = { ℕ };
+
+    ghost view = { λ p. p.number };
+
+    ghost invariant = { λ p. p.number < 64 };
+
+    ghost inverse = { λ n. record { number = n } };
+}
+
+impl Place {
+    /// The place's number, as an index.
+    pub fn index(self) -> usize
+        ensures value { result ≡ self }
+        ensures below { result < 64 }
+    {
+        self.number as usize
+    }
+}
+
+impl TryFrom<u32> for Place {
+    ghost use Rattle.sheet.specs.Numbers.{NamesPlace};
+
+    type Error = Refusal;
+
+    ghost try_from_gives = { NamesPlace };
+
+    fn try_from(number: u32) -> Result<Self, Refusal> {
+        if number > 63 {
+            return Err(Refusal::NoLineThere);
+        }
+        Ok(Place {
+            number: number as u8,
+        })
+    }
+}
+
 /// A set of places: place n is in it if bit n is set.
-#[derive(Clone, Copy)]
+#[derive(Clone, Copy, Debug, PartialEq, Eq)]
 pub struct Places {
     pub(crate) bits: u64,
+}
+
+impl Places {
+    ghost use Rattle.sheet.specs.Places.{Lowest, has, is_none, lowest, none, union, with_place, without};
+
+    /// The empty set.
+    pub(crate) fn none() -> Places
+        ensures { result ≡ none }
+    {
+        Places { bits: 0 }
+    }
+
+    /// Whether a place is in the set.
+    pub(crate) fn has(self, place: Place) -> bool
+        ensures { result ≡ has self place }
+    {
+        (self.bits >> place.number) % 2 == 1
+    }
+
+    /// The set with one place more.
+    pub(crate) fn with(self, place: Place) -> Places
+        ensures { result ≡ with_place place self }
+    {
+        Places {
+            bits: self.bits | (1 << place.number),
+        }
+    }
+
+    /// The set without a place.
+    pub(crate) fn without(self, place: Place) -> Places
+        ensures { result ≡ without place self }
+    {
+        if self.has(place) {
+            Places {
+                bits: self.bits ^ (1 << place.number),
+            }
+        } else {
+            self
+        }
+    }
+
+    /// The places of both sets.
+    pub(crate) fn union(self, other: Places) -> Places
+        ensures { result ≡ union self other }
+    {
+        Places {
+            bits: self.bits | other.bits,
+        }
+    }
+
+    pub(crate) fn is_none(self) -> bool
+        ensures { result ≡ is_none self }
+    {
+        self.bits == 0
+    }
+
+    /// The lowest place of the set.
+    #[tactic(auto, using(crate::proofs::PlaceSets::lowest_words))]
+    pub(crate) fn lowest(self) -> Option<Place>
+        ensures value { result ≡ lowest self }
+        ensures words { Lowest self result }
+    {
+        if self.is_none() {
+            None
+        } else {
+            Some(Place {
+                number: self.bits.trailing_zeros() as u8,
+            })
+        }
+    }
 }

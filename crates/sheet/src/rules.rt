@@ -1,10 +1,11 @@
-ghost use Rattle.std.specs.Prelude.{◌≡◌, ◌<◌, true, if◌then◌else◌, Some, None};
+ghost use Rattle.std.specs.Prelude.{◌≡◌, Some};
 ghost use Rattle.catalogue.specs.Ranges.{meet};
-ghost use Rattle.sheet.specs.Rules.{absorbed, changed, cut as Cut, cut_to_limits, empty, given as Given, inside, made_due, narrowed_by, or_void, rested, returned, smaller, step as Stepped, voided};
+ghost use Rattle.sheet.specs.Rules.{absorbed, changed, cut as Cut, cut_to_limits, empty, given as Given, inside, left, made_due, narrowed_by, or_void, rested, returned, smaller, step as Stepped, voided};
 
 use crate::lines::{CheckedLine, Line};
-use crate::places::Places;
-use crate::table::{State, Table};
+use crate::places::{Place, Places};
+use crate::registers::Register;
+use crate::table::{Empty, State, Table};
 use catalogue::interface::Catalogue;
 use catalogue::types::{Range, Triple};
 
@@ -62,94 +63,87 @@ impl Table {
     }
 
     /// A register's range becomes another, and the lines that name the register become due.
-    fn change(&mut self, register: u8, new: Range)
-        requires { register < 32 }
+    fn change(&mut self, register: Register, new: Range)
         ensures { self.new ≡ changed register new self.old }
     {
-        self.ranges[register as usize] = new;
-        self.due = self.due.union(self.naming[register as usize]);
+        self.ranges[register.index()] = new;
+        self.due = self.due.union(self.naming[register.index()]);
     }
 
-    /// Cuts a register's range to what it has in common with another; false where that is nothing.
-    fn cut(&mut self, register: u8, by: Range) -> bool
-        requires { register < 32 }
+    /// Cuts a register's range to what it has in common with another.
+    fn cut(&mut self, register: Register, by: Range) -> Result<(), Empty>
         ensures void { voided self.new ≡ voided self.old }
-        ensures after { Cut register by self.old ≡ (if result then Some self.new else None) }
+        ensures after { Cut register by self.old ≡ left self.new result }
     {
-        let old = self.ranges[register as usize];
+        let old = self.ranges[register.index()];
         let new = old.meet(by);
         if is_empty(new) {
-            return false;
+            return Err(Empty);
         }
         if is_smaller(new, old) {
             self.change(register, new);
         }
-        true
+        Ok(())
     }
 
     /// Cuts a register's range to its limits; the table then rests, is open or is void.
-    pub(crate) fn cut_to_limits(&mut self, register: u8)
-        requires { register < 32 }
+    pub(crate) fn cut_to_limits(&mut self, register: Register)
         ensures { self.new ≡ cut_to_limits register self.old }
     {
-        let limits = self.limits[register as usize];
-        if self.cut(register, limits) {
-            self.rest();
-        } else {
-            self.make_void();
+        let limits = self.limits[register.index()];
+        match self.cut(register, limits) {
+            Ok(()) => self.rest(),
+            Err(Empty) => self.make_void(),
         }
     }
 
     /// The line at a place is due.
-    pub(crate) fn make_due(&mut self, place: u8)
-        requires { place < 64 }
+    pub(crate) fn make_due(&mut self, place: Place)
         ensures { self.new ≡ made_due place self.old }
     {
         self.due = self.due.with(place);
         self.state = State::Open;
     }
 
-    /// Cuts each register of a line to its result; false where one of them is left with nothing.
-    fn absorb(&mut self, line: Line, results: Triple) -> bool
-        requires { (line.x < 32) × (line.y < 32) × (line.z < 32) }
+    /// Cuts each register of a line to its result.
+    fn absorb(&mut self, line: &Line, results: Triple) -> Result<(), Empty>
         ensures void { voided self.new ≡ voided self.old }
-        ensures after { absorbed line (Some results) self.old ≡ (if result then Some self.new else None) }
+        ensures after { absorbed line.now (Some results) self.old ≡ left self.new result }
     {
-        self.cut(line.x, results.x) && self.cut(line.y, results.y) && self.cut(line.z, results.z)
+        self.cut(line.x, results.x)?;
+        self.cut(line.y, results.y)?;
+        self.cut(line.z, results.z)
     }
 
     /// The ranges of a line's registers.
-    fn given(&self, line: Line) -> Triple
-        requires { (line.x < 32) × (line.y < 32) × (line.z < 32) }
-        ensures { result ≡ Given line self.now }
+    fn given(&self, line: &Line) -> Triple
+        ensures { result ≡ Given line.now self.now }
     {
         Triple {
-            x: self.ranges[line.x as usize],
-            y: self.ranges[line.y as usize],
-            z: self.ranges[line.z as usize],
+            x: self.ranges[line.x.index()],
+            y: self.ranges[line.y.index()],
+            z: self.ranges[line.z.index()],
         }
     }
 
-    /// Narrows a line once, from the ranges as they are; false where that leaves nothing.
-    fn narrow<C: Catalogue>(&mut self, catalogue: &C, line: Line) -> bool
-        requires { (line.x < 32) × (line.y < 32) × (line.z < 32) }
+    /// Narrows a line once, from the ranges as they are.
+    fn narrow<C: Catalogue>(&mut self, catalogue: &C, line: &Line) -> Result<(), Empty>
         ensures void { voided self.new ≡ voided self.old }
-        ensures after { narrowed_by (C.meaning catalogue.now) line self.old ≡ (if result then Some self.new else None) }
+        ensures after { narrowed_by (C.meaning catalogue.now) line.now self.old ≡ left self.new result }
     {
-        match catalogue.narrow(line.kind, line.modes, self.given(line)) {
-            Some(results) => self.absorb(line, results),
-            None => false,
-        }
+        let results = catalogue
+            .narrow(line.kind, line.modes, self.given(line))
+            .ok_or(Empty)?;
+        self.absorb(line, results)
     }
 
     /// Narrows a checked line; the table then rests, is open or is void.
     fn step_line<C: Catalogue>(&mut self, catalogue: &C, checked: &CheckedLine)
         ensures { self.new ≡ or_void self.old (narrowed_by (C.meaning catalogue.now) checked.now.line self.old) }
     {
-        if self.narrow(catalogue, checked.line) {
-            self.rest();
-        } else {
-            self.make_void();
+        match self.narrow(catalogue, &checked.line) {
+            Ok(()) => self.rest(),
+            Err(Empty) => self.make_void(),
         }
     }
 
@@ -161,7 +155,7 @@ impl Table {
             return;
         };
         self.due = self.due.without(place);
-        match self.rows[place as usize].drawn().check() {
+        match self.line_at(place) {
             Ok(line) => self.step_line(catalogue, &line),
             Err(_) => self.rest(),
         }

@@ -1,8 +1,10 @@
-use crate::places::Places;
+use crate::places::{Place, Places};
+use crate::registers::Register;
 use catalogue::types::Range;
 
-/// The line at a place, as plain numbers.
-#[derive(Clone, Copy)]
+/// The line at a place, as plain numbers. A type apart from `DrawnLine`: a row is copied from the table, a drawn line is
+/// moved and used up by its check.
+#[derive(Clone, Copy, Debug, PartialEq, Eq)]
 pub struct Row {
     pub(crate) kind: u8,
     pub(crate) modes: u8,
@@ -11,7 +13,7 @@ pub struct Row {
     pub(crate) z: u8,
 }
 
-#[derive(Clone, Copy)]
+#[derive(Clone, Copy, Debug, PartialEq, Eq)]
 pub enum State {
     Settled,
     Open,
@@ -22,7 +24,9 @@ pub enum State {
 #[derive(Drop)]
 pub struct Table {
     pub(crate) limits: [Range; 32],
+    /// Beside the limits and not in one struct with them: the return to the limits copies one whole array to the other.
     pub(crate) ranges: [Range; 32],
+    /// Rows, and not optional lines: a struck line keeps its row, and only its mark in `standing` goes.
     pub(crate) rows: [Row; 64],
     /// The places where a line stands.
     pub(crate) standing: Places,
@@ -33,15 +37,19 @@ pub struct Table {
     pub(crate) state: State,
 }
 
+/// Nothing is left of a register's range, or of a line.
+#[derive(Clone, Copy, Debug, PartialEq, Eq)]
+pub(crate) struct Empty;
+
 /// What happens to a table, at a register, at a place or to the whole of it.
-#[derive(Clone, Copy)]
+#[derive(Clone, Copy, Debug, PartialEq, Eq)]
 pub enum Event {
     /// The new limits of a register lie inside its old ones.
-    Tightened,
+    Tightened(Register),
     /// The new limits of a register do not lie inside its old ones.
     Loosened,
     /// A line was put at a place.
-    Entered,
+    Entered(Place),
     /// The line at a place was removed.
     Struck,
     /// A step is to be made.
@@ -49,7 +57,7 @@ pub enum Event {
 }
 
 /// How a settle ended.
-#[derive(Clone, Copy)]
+#[derive(Clone, Copy, Debug, PartialEq, Eq)]
 pub enum Outcome {
     Settled,
     Stopped,
