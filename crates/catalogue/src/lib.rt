@@ -9,6 +9,6 @@ pub mod non_empty;
 mod numbers;
 pub mod partners;
 pub mod ranges;
-pub mod refusals;
+mod refusals;
 pub mod search;
 pub mod types;

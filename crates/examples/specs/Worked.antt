@@ -26,7 +26,7 @@ abbrev pub nearest_alone : Modes
 nearest_alone = record { bits = 1 }
 
 abbrev pub line : Kind → ℕ → ℕ → ℕ → Line
-line k x y z = record { kind = k; modes = nearest_alone; x = x; y = y; z = z }
+line k x y z = record { operation = record { kind = k; modes = nearest_alone }; x = x; y = y; z = z }
 
 -- a new sheet after limits of registers 0, 1, .. in turn, and a line at place 0, settled
 abbrev pub limits_from : Meaning → ℕ → List Range → Table → Table

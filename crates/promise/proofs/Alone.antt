@@ -80,7 +80,7 @@ absorbed_left l (Some s) t u p wide e same =
 -- ---- both ways, for a line that passes the check
 module _ (m : Meaning) (laws : Laws m) (l : Line) (p : Passes l) (t : Table) where
   pub unchanged_alone : ((r : ℕ) → r < 32 → Proper (range_at t r)) → Unchanged m l (range_at t) → narrowed_by m l t ≡ Some t
-  unchanged_alone proper u = absorbed_alone l (m.narrowed l.kind l.modes (given l t)) t p proper (unmoved m laws (range_at t) l p u)
+  unchanged_alone proper u = absorbed_alone l (m.narrowed l.operation.kind l.operation.modes (given l t)) t p proper (unmoved m laws (range_at t) l p u)
 
   pub alone_unchanged : length t.ranges ≡ 32 → (u : Table) → narrowed_by m l t ≡ Some u → ((r : ℕ) → r < 32 → range_at u r ≡ range_at t r) → Unchanged m l (range_at t)
-  alone_unchanged wide u e same = unchanged m laws (range_at t) l (absorbed_left l (m.narrowed l.kind l.modes (given l t)) t u p wide e same)
+  alone_unchanged wide u e same = unchanged m laws (range_at t) l (absorbed_left l (m.narrowed l.operation.kind l.operation.modes (given l t)) t u p wide e same)

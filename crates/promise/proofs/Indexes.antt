@@ -71,7 +71,7 @@ or_void_lines t (Some u) h = record { rows = h.rows; standing = h.standing; nami
 module _ (m : Meaning) where
   step_line_lines : (l : Result Line ℕ) (t : Table) → LinesStay (step_line m l t) t
   step_line_lines (Err e) t = record { rows = refl; standing = refl; naming = refl }
-  step_line_lines (Ok l) t = or_void_lines t (narrowed_by m l t) (absorbed_lines l (m.narrowed l.kind l.modes (given l t)) t)
+  step_line_lines (Ok l) t = or_void_lines t (narrowed_by m l t) (absorbed_lines l (m.narrowed l.operation.kind l.operation.modes (given l t)) t)
 
   step_at_lines : (o : Option ℕ) (t : Table) → LinesStay (step_at m o t) t
   step_at_lines None t = same_lines t

@@ -52,7 +52,7 @@ module _ (m : Meaning) (laws : Laws m) where
   point_fixed h v k = record {
     proper = λ r _. (at_least (v r)).0;
     limits = λ r lt. ((k.limits r lt).0, (k.limits r lt).1);
-    unmoved = λ n l e. holds_within v l _ (laws.kept l.kind l.modes (given_to l (point v)) (v l.x) (v l.y) (v l.z)
+    unmoved = λ n l e. holds_within v l _ (laws.kept l.operation.kind l.operation.modes (given_to l (point v)) (v l.x) (v l.y) (v l.z)
         (k.lines l (record { place = n; here = e })) (at_least (v l.x), at_least (v l.y), at_least (v l.z)));
   }
 

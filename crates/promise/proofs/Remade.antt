@@ -14,15 +14,15 @@ use Rattle.catalogue.specs.Numbers.{kind_number, kind_of}
 use Rattle.sheet.specs.Lines.{checked_kind, checked, row_of, drawn_of}
 
 pub record Passes (l : Line) : Type 0 where
-  pub some : 0 < l.modes.bits
-  pub few : l.modes.bits < 16
+  pub some : 0 < l.operation.modes.bits
+  pub few : l.operation.modes.bits < 16
   pub x : l.x < 32
   pub y : l.y < 32
   pub z : l.z < 32
 
 pub passing : (l : Line) → passes_check l ≡ true → Passes l
 passing l h =
-    let s = l.modes.bits in
+    let s = l.operation.modes.bits in
     let a = and_parts (ltb 0 s && ltb s 16) (ltb l.x 32 && (ltb l.y 32 && ltb l.z 32)) h in
     let b = and_parts (ltb 0 s) (ltb s 16) a.0 in
     let c = and_parts (ltb l.x 32) (ltb l.y 32 && ltb l.z 32) a.1 in
@@ -37,7 +37,7 @@ kind_again Peak = refl
 pub remade : (l : Line) → passes_check l ≡ true → checked (drawn_of (row_of l)) ≡ Ok l
 remade l h =
     let p = passing l h in
-    let s = l.modes.bits in
+    let s = l.operation.modes.bits in
     let d = drawn_of (row_of l) in
     let bad-modes : (eqb s 0 || ltb 15 s) ≡ false = or_from (eqb s 0) (ltb 15 s) (ne_eqb s 0 (λ e. omega (arith, p.some, e))) (le-ltb 15 s (omega (arith, p.few))) in
     let bad-x : ltb 31 l.x ≡ false = le-ltb 31 l.x (omega (arith, p.x)) in
@@ -45,7 +45,7 @@ remade l h =
     let bad-z : ltb 31 l.z ≡ false = le-ltb 31 l.z (omega (arith, p.z)) in
     let bad : (ltb 31 l.x || (ltb 31 l.y || ltb 31 l.z)) ≡ false = or_from (ltb 31 l.x) _ bad-x (or_from (ltb 31 l.y) (ltb 31 l.z) bad-y bad-z) in
     let here : Result Line ℕ = cond (ltb 31 l.x || (ltb 31 l.y || ltb 31 l.z)) (Err 1) (Ok l) in
-    ap (λ k. checked_kind k d) (kind_again l.kind)
+    ap (λ k. checked_kind k d) (kind_again l.operation.kind)
     ∙ cond-false (eqb s 0 || ltb 15 s) (Err 5) here bad-modes
     ∙ cond-false (ltb 31 l.x || (ltb 31 l.y || ltb 31 l.z)) (Err 1) (Ok l) bad
 
@@ -53,7 +53,7 @@ remade l h =
 pub checked_passes : (c : CheckedLine) → passes_check c.line ≡ true
 checked_passes c =
     let l = c.line in
-    let s = l.modes.bits in
+    let s = l.operation.modes.bits in
     and_from (ltb 0 s && ltb s 16) (ltb l.x 32 && (ltb l.y 32 && ltb l.z 32))
     (and_from (ltb 0 s) (ltb s 16) (lt-ltb 0 s c.some_mode) (lt-ltb s 16 c.no_other_mode))
     (and_from (ltb l.x 32) (ltb l.y 32 && ltb l.z 32) (lt-ltb l.x 32 c.x_exists) (and_from (ltb l.y 32) (ltb l.z 32) (lt-ltb l.y 32 c.y_exists) (lt-ltb l.z 32 c.z_exists)))
@@ -72,7 +72,7 @@ checked_passed d = by (kind_of d.kind)
     by : (o : Option Kind) → Passed (checked_kind o d)
     by None = tt
     by (Some k) =
-        let l : Line = record { kind = k; modes = record { bits = d.modes }; x = d.x; y = d.y; z = d.z } in
+        let l : Line = record { operation = record { kind = k; modes = record { bits = d.modes } }; x = d.x; y = d.y; z = d.z } in
         cond_both (eqb d.modes 0 || ltb 15 d.modes) (Err 5) (cond (ltb 31 d.x || (ltb 31 d.y || ltb 31 d.z)) (Err 1) (Ok l)) Passed
         (λ _. tt)
         (λ e. let modes = or_parts (eqb d.modes 0) (ltb 15 d.modes) e in

@@ -100,14 +100,14 @@ module _ (m : Meaning) (limits-to : Ranges) (at : Drawn) (n : ℕ) (l : Line) (h
 
   module _ (laws : Laws m) (p : Passes l) (on : On t) where
     abbrev out : Option Triple
-    out = m.narrowed l.kind l.modes (given l t)
+    out = m.narrowed l.operation.kind l.operation.modes (given l t)
 
     -- the heart: narrowing a line keeps every set that the line leaves unmoved
     narrowed_left : Left (All out) (narrowed_by m l t)
     narrowed_left = absorbed_left p on out (λ σ c.
         let k = on.kept σ c in
-        let st = laws.steady l.kind l.modes (given_to l σ) (given l t) (k l.x p.x, k l.y p.y, k l.z p.z) in
-        within_some (given_to l σ) (m.narrowed l.kind l.modes (given_to l σ)) out (c.unmoved n l here) st)
+        let st = laws.steady l.operation.kind l.operation.modes (given_to l σ) (given l t) (k l.x p.x, k l.y p.y, k l.z p.z) in
+        within_some (given_to l σ) (m.narrowed l.operation.kind l.operation.modes (given_to l σ)) out (c.unmoved n l here) st)
 
     narrowed_sound : Limited m limits-to t → Sound m limits-to at (or_void t (narrowed_by m l t))
     narrowed_sound lim = by (narrowed_by m l t) refl narrowed_left

@@ -57,7 +57,7 @@ within_some a (Some b) (Some c) h k =
 
 -- ---- ranges that a line does not move: they lie within what it narrows them to
 abbrev pub Stays : Meaning → Line → Triple → Type 0
-Stays m l g = WithinO (Some g) (m.narrowed l.kind l.modes g)
+Stays m l g = WithinO (Some g) (m.narrowed l.operation.kind l.operation.modes g)
 
 abbrev pub Unmoved : Meaning → Ranges → Line → Type 0
 Unmoved m σ l = Stays m l (given_to l σ)
@@ -87,9 +87,9 @@ common_own r a c = subst (λ b. Within (common_if b a c) a) (sym (eq-eqb r r ref
 -- both ways
 module _ (m : Meaning) (laws : Laws m) (σ : Ranges) (l : Line) where
   pub unchanged : Unmoved m σ l → Unchanged m l σ
-  unchanged = by (m.narrowed l.kind l.modes (given_to l σ)) refl (laws.inside l.kind l.modes (given_to l σ))
+  unchanged = by (m.narrowed l.operation.kind l.operation.modes (given_to l σ)) refl (laws.inside l.operation.kind l.operation.modes (given_to l σ))
     where
-      by : (o : Option Triple) → m.narrowed l.kind l.modes (given_to l σ) ≡ o → WithinO o (Some (given_to l σ)) → WithinO (Some (given_to l σ)) o → Unchanged m l σ
+      by : (o : Option Triple) → m.narrowed l.operation.kind l.operation.modes (given_to l σ) ≡ o → WithinO o (Some (given_to l σ)) → WithinO (Some (given_to l σ)) o → Unchanged m l σ
       by None e i u = absurd u
       by (Some s) e i u = record {
         results = s;

@@ -19,7 +19,7 @@ pub data Call : Type 0 where
 
 -- what the check promises of a line; enter takes no other
 abbrev pub passes_check : Line → Bool
-passes_check l = (nat_lt 0 l.modes.bits && nat_lt l.modes.bits 16) && (nat_lt l.x 32 && (nat_lt l.y 32 && nat_lt l.z 32))
+passes_check l = (nat_lt 0 l.operation.modes.bits && nat_lt l.operation.modes.bits 16) && (nat_lt l.x 32 && (nat_lt l.y 32 && nat_lt l.z 32))
 
 -- the table that a call leaves, carried out or declined
 abbrev pub called : Meaning → Call → Table → Table

@@ -38,7 +38,7 @@ gets l s q old = common_if (l.z == q) s.z (common_if (l.y == q) s.y (common_if (
 -- a step of the line would leave every range unchanged, and make nothing void
 pub record Unchanged (m : Meaning) (l : Line) (σ : Ranges) : Type 0 where
   pub results : Triple
-  pub narrowed : m.narrowed l.kind l.modes (given_to l σ) ≡ Some results
+  pub narrowed : m.narrowed l.operation.kind l.operation.modes (given_to l σ) ≡ Some results
   pub same : (q : ℕ) → q < 32 → gets l results q (σ q) ≡ σ q
 
 -- a consistent set: ranges of readings, which a step of any line would leave unchanged
@@ -59,7 +59,7 @@ InLimits m h σ = Inside σ (limits_of m h)
 pub record Keeps (m : Meaning) (h : List Call) (v : Assignment) : Type 0 where
   pub readings : (r : ℕ) → r < 32 → Holds (all_readings m) (v r)
   pub limits : (r : ℕ) → r < 32 → Holds (limits_of m h r) (v r)
-  pub lines : (l : Line) → HasLine h l → m.allowed l.kind l.modes (v l.x) (v l.y) (v l.z) ≡ true
+  pub lines : (l : Line) → HasLine h l → m.allowed l.operation.kind l.operation.modes (v l.x) (v l.y) (v l.z) ≡ true
 
 -- ---- what a sheet shows after a history
 

@@ -156,11 +156,11 @@ pattern_or_none m None = None
 pattern_or_none m (Some y) = Some (m.writes y)
 
 abbrev pub named_partner : Meaning → Line → ℤ × ℤ → Table → Option ℤ
-named_partner m l p t = m.partner l.kind l.modes p.0 p.1 (range_at t l.y)
+named_partner m l p t = m.partner l.operation.kind l.operation.modes p.0 p.1 (range_at t l.y)
 
 -- the choice of y is free but for this: some rank of y's shown range that makes an allowed triple with x and z, none exactly if there is none
 abbrev pub Partnered : Meaning → Line → ℤ × ℤ → Table → Type 0
-Partnered m l p t = SomeOf (range_at t l.y) (λ y. m.allowed l.kind l.modes p.0 y p.1) (named_partner m l p t)
+Partnered m l p t = SomeOf (range_at t l.y) (λ y. m.allowed l.operation.kind l.operation.modes p.0 y p.1) (named_partner m l p t)
 
 abbrev pub partner_of : Meaning → Result Line ℕ → Result (ℤ × ℤ) ℕ → Table → Result (Option ℕ) ℕ
 partner_of m (Err e) p t = Err 7

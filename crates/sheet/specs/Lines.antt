@@ -15,7 +15,7 @@ checked_kind None d = Err 4
 checked_kind (Some k) d =
     cond (d.modes == 0 || nat_lt 15 d.modes) (Err 5)
     (cond (nat_lt 31 d.x || (nat_lt 31 d.y || nat_lt 31 d.z)) (Err 1)
-    (Ok record { kind = k; modes = record { bits = d.modes }; x = d.x; y = d.y; z = d.z }))
+    (Ok record { operation = record { kind = k; modes = record { bits = d.modes } }; x = d.x; y = d.y; z = d.z }))
 
 abbrev pub checked : DrawnLine → Result Line ℕ
 checked d = checked_kind (kind_of d.kind) d
@@ -27,7 +27,7 @@ check_answer (Err e) = Err (number_of e)
 
 -- a line as a row of plain numbers, and a row as a drawn line
 abbrev pub row_of : Line → Row
-row_of l = record { kind = kind_number l.kind; modes = l.modes.bits; x = l.x; y = l.y; z = l.z }
+row_of l = record { kind = kind_number l.operation.kind; modes = l.operation.modes.bits; x = l.x; y = l.y; z = l.z }
 
 abbrev pub drawn_of : Row → DrawnLine
 drawn_of w = record { kind = w.kind; modes = w.modes; x = w.x; y = w.y; z = w.z }

@@ -120,7 +120,7 @@ absorbed l (Some s) t = then (then (cut l.x s.x t) (cut l.y s.y)) (cut l.z s.z)
 
 -- a line narrowed once, from the ranges as they are
 abbrev pub narrowed_by : Meaning → Line → Table → Option Table
-narrowed_by m l t = absorbed l (m.narrowed l.kind l.modes (given l t)) t
+narrowed_by m l t = absorbed l (m.narrowed l.operation.kind l.operation.modes (given l t)) t
 
 -- a row is made a line again by the check; one that does not pass changes nothing, and no standing line has such a row
 abbrev pub step_line : Meaning → Result Line ℕ → Table → Table

@@ -61,7 +61,7 @@ impl<C: Catalogue> Sheet<C> {
         ensures table { result.table ≡ new_table (C.meaning catalogue) }
         ensures catalogue { result.catalogue ≡ catalogue }
     {
-        let table = Table::new(catalogue.ends());
+        let table = Table::new(C::readings());
         Sheet { catalogue, table }
     }
 
@@ -204,7 +204,7 @@ impl<C: Catalogue> Look<'_, C> {
         let y = self.sheet.table.ranges[line.y.index()];
         self.sheet
             .catalogue
-            .partner(line.kind, line.modes, x, z, y)
+            .partner(line.operation, x, z, y)
             .map(|rank| self.sheet.catalogue.pattern(rank))
     }
 }

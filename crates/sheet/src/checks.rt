@@ -6,19 +6,20 @@ use crate::lines::{CheckedLine, DrawnLine, Line};
 use crate::places::Place;
 use crate::registers::Register;
 use crate::table::{Row, Table};
-use catalogue::types::{Kind, Modes, Refusal};
+use catalogue::types::{Kind, Modes, Operation, Refusal};
 
 impl DrawnLine {
     /// The checked line, or why it is declined: its kind, then its mode set, then its registers.
     pub fn check(self) -> Result<CheckedLine, Refusal>
         ensures { check_answer result ≡ checked self }
     {
-        let kind = Kind::try_from(self.kind)?;
-        let modes = Modes::try_from(self.modes)?;
+        let operation = Operation {
+            kind: Kind::try_from(self.kind)?,
+            modes: Modes::try_from(self.modes)?,
+        };
         Ok(CheckedLine {
             line: Line {
-                kind,
-                modes,
+                operation,
                 x: Register::try_from(self.x)?,
                 y: Register::try_from(self.y)?,
                 z: Register::try_from(self.z)?,
@@ -33,8 +34,8 @@ impl From<Line> for Row {
 
     fn from(line: Line) -> Row {
         Row {
-            kind: u8::from(line.kind),
-            modes: line.modes.bits,
+            kind: u8::from(line.operation.kind),
+            modes: line.operation.modes.bits,
             x: u8::from(line.x),
             y: u8::from(line.y),
             z: u8::from(line.z),

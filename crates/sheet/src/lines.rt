@@ -1,7 +1,7 @@
 ghost use Rattle.std.specs.Prelude.{◌<◌};
 
 use crate::registers::Register;
-use catalogue::types::{Kind, Modes};
+use catalogue::types::Operation;
 
 /// A line as it was drawn: any kind, mode set and registers.
 #[derive(Debug, PartialEq, Eq, Drop)]
@@ -13,11 +13,10 @@ pub struct DrawnLine {
     pub z: u32,
 }
 
-/// What a line says: its kind, its mode set and the three registers that it ties.
+/// What a line says: its operation, and the three registers that it ties.
 #[derive(Clone, Copy)]
 pub struct Line {
-    pub kind: Kind,
-    pub modes: Modes,
+    pub operation: Operation,
     pub x: Register,
     pub y: Register,
     pub z: Register,
@@ -27,8 +26,8 @@ pub struct Line {
 #[derive(Drop)]
 pub struct CheckedLine {
     pub(crate) line: Line,
-    ghost some_mode: { 0 < line.modes.bits },
-    ghost no_other_mode: { line.modes.bits < 16 },
+    ghost some_mode: { 0 < line.operation.modes.bits },
+    ghost no_other_mode: { line.operation.modes.bits < 16 },
     // A clause sees a register as its number, so what the type says of each is said again here, for those who read clauses.
     ghost x_exists: { line.x < 32 },
     ghost y_exists: { line.y < 32 },

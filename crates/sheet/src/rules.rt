@@ -132,7 +132,7 @@ impl Table {
         ensures after { narrowed_by (C.meaning catalogue.now) line.now self.old ≡ left self.new result }
     {
         let results = catalogue
-            .narrow(line.kind, line.modes, self.given(line))
+            .narrow(line.operation, self.given(line))
             .ok_or(Empty)?;
         self.absorb(line, results)
     }
