@@ -40,11 +40,7 @@ impl Scale {
     pub(crate) fn span(self, kind: Kind, modes: Modes, x: i32, y: i32) -> Span
         ensures { result ≡ span_of (stopping self.end) kind modes x y }
     {
-        let result = self.result(kind, x, y);
-        Span {
-            least: result,
-            greatest: result,
-        }
+        Span::of(self.result(kind, x, y))
     }
 
     /// The rank of a pattern, unless it is past the end.
