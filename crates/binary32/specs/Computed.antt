@@ -3,6 +3,9 @@ use Rattle.std.specs.Prelude.{ℕ, suc, ◌+◌, ◌-◌, ◌*◌, ◌/◌, ◌%
 use Rattle.std.specs.Float.Ieee.{size}
 use Rattle.catalogue.specs.declared.types.Mode.{Mode}
 use Rattle.catalogue.specs.declared.types.Mode.TheVariants.{Nearest, Up, Down, TowardZero}
+use Rattle.catalogue.specs.declared.types.Modes.{Modes}
+use Rattle.catalogue.specs.declared.types.Span.{Span}
+use Rattle.catalogue.specs.Modes.{has_mode, lesser_if, greater_if}
 use Rattle.binary32.specs.declared.types.ExactSum.{ExactSum}
 use Rattle.binary32.specs.declared.types.Rest.{Rest}
 use Rattle.binary32.specs.declared.types.Rest.TheVariants.{Exact, BelowMiddle, Middle, AboveMiddle}
@@ -60,3 +63,10 @@ rounded m (negsuc n) = neg_ℤ (pos (magnitude_by m true (floor_of (suc n)) (res
 -- the same, from an exact sum's sign and location
 abbrev pub rank_by : ExactSum → Mode → ℤ
 rank_by s m = with_sign s.negative (magnitude_by m s.negative s.location.rank s.location.rest)
+
+-- a span with one more mode's rank, where the set has the mode
+abbrev pub widened : ExactSum → Modes → Span → Mode → Span
+widened e s p m = record {
+  least = lesser_if (has_mode s m) p.least (rank_by e m);
+  greatest = greater_if (has_mode s m) p.greatest (rank_by e m);
+}

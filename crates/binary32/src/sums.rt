@@ -1,9 +1,9 @@
 ghost use Rattle.std.specs.Prelude.{◌≡◌, ◌+◌, ◌≤◌, min, ◌+ℤ◌, neg_ℤ, unsigned_abs};
-ghost use Rattle.catalogue.specs.Modes.{greater_if, greatest_of, has_mode, least_of, lesser_if};
+ghost use Rattle.catalogue.specs.Modes.{greatest_of, least_of};
 ghost use Rattle.catalogue.specs.Operations.{greatest_result, least_result};
 ghost use Rattle.binary32.specs.Units.{beyond, value};
 ghost use Rattle.binary32.specs.Locations.{Locates};
-ghost use Rattle.binary32.specs.Computed.{directed_to, magnitude_by, rank_by, to_nearest};
+ghost use Rattle.binary32.specs.Computed.{directed_to, magnitude_by, rank_by, to_nearest, widened};
 ghost use Rattle.binary32.specs.Binary32.{binary32 as Arithmetic32};
 
 use crate::magnitudes::locate;
@@ -65,9 +65,8 @@ impl ExactSum {
     }
 
     /// A span with one more mode's rank, where the set has the mode.
-    fn widen(self, span: Span, mode: Mode, modes: Modes) -> Span
-        ensures least { result.least ≡ lesser_if (has_mode modes mode) span.least (rank_by self mode) }
-        ensures greatest { result.greatest ≡ greater_if (has_mode modes mode) span.greatest (rank_by self mode) }
+    fn widen(self, modes: Modes, span: Span, mode: Mode) -> Span
+        ensures { result ≡ widened self modes span mode }
     {
         if modes.has(mode) {
             let rank = self.round(mode);
@@ -85,14 +84,10 @@ impl ExactSum {
         ensures least { result.least ≡ least_of modes (rank_by self) }
         ensures greatest { result.greatest ≡ greatest_of modes (rank_by self) }
     {
-        let rank = self.round(modes.first());
-        let first = Span {
-            least: rank,
-            greatest: rank,
-        };
-        let up = self.widen(first, Mode::Up, modes);
-        let down = self.widen(up, Mode::Down, modes);
-        self.widen(down, Mode::TowardZero, modes)
+        let first = Span::of(self.round(modes.first()));
+        [Mode::Up, Mode::Down, Mode::TowardZero]
+            .iter()
+            .fold(first, |span, &mode| self.widen(modes, span, mode))
     }
 
     /// The ranks that down and up give.
@@ -166,12 +161,6 @@ pub(crate) fn span_of(operation: Operation, x: Reading, y: Reading) -> Span
     match operation.kind {
         Kind::Sum => (x + y).span(operation.modes),
         Kind::Difference => (x - y).span(operation.modes),
-        Kind::Peak => {
-            let larger = x.rank().max(y.rank());
-            Span {
-                least: larger,
-                greatest: larger,
-            }
-        }
+        Kind::Peak => Span::of(x.rank().max(y.rank())),
     }
 }

@@ -37,10 +37,13 @@ stopping_laws e h = record {
 abbrev both : ℤ → ℤ → Span
 both l h = record { least = l; greatest = h }
 
-pub span_alike : (e : ℕ) (k : Kind) (s : Modes) (x y r : ℤ) → r ≡ stopped e k (nearest_reading (stopping e) x) (nearest_reading (stopping e) y) → both r r ≡ span_of (stopping e) k s x y
-span_alike e k s x y r h =
-    let v = stopped e k (nearest_reading (stopping e) x) (nearest_reading (stopping e) y) in
-    ap (λ u. both u u) h ∙ ap (λ u. both u v) (sym (least_alike s v)) ∙ ap (both (least_of s (λ m. v))) (sym (greatest_alike s v))
+module _ (e : ℕ) (k : Kind) (s : Modes) (x y r : ℤ) (p : Span) where
+  abbrev held : ℤ
+  held = stopped e k (nearest_reading (stopping e) x) (nearest_reading (stopping e) y)
+
+  pub span_alike : p.least ≡ r → p.greatest ≡ r → r ≡ held → p ≡ span_of (stopping e) k s x y
+  span_alike l g h =
+      ap (λ u. both u p.greatest) (l ∙ h ∙ sym (least_alike s held)) ∙ ap (both (least_of s (λ m. held))) (g ∙ h ∙ sym (greatest_alike s held))
 
 -- ---- patterns
 abbrev Within : ℕ → Option ℤ → Type 0

@@ -40,11 +40,7 @@ impl Scale {
     pub(crate) fn span(self, operation: Operation, x: i32, y: i32) -> Span
         ensures { result ≡ span_of (stopping self.end) operation.kind operation.modes x y }
     {
-        let result = self.result(operation.kind, x, y);
-        Span {
-            least: result,
-            greatest: result,
-        }
+        Span::of(self.result(operation.kind, x, y))
     }
 
     /// The rank of a pattern, unless it is past the end.

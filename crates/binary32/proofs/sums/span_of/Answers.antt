@@ -25,11 +25,11 @@ returns-in-Difference c =
 
 pub returns-in-Peak : goal.returns-in-Peak
 returns-in-Peak c =
-    let m : SFits w32 c.max-larger.result = search rules in
+    let m : SFits w32 c.max.result = search rules in
     let u : SFits w32 c.rank.result = search rules in
     let v : SFits w32 c.rank-in-Peak.result = search rules in
-    let e : c.max-larger.result ≡ int_max c.args.x c.args.y = rw (← c.rank.ensures, ← c.rank-in-Peak.ensures) (simp to_z-of_z at c.max-larger.ensures.value) in
+    let e : c.max.result ≡ int_max c.args.x c.args.y = rw (← c.rank.ensures, ← c.rank-in-Peak.ensures) (simp to_z-of_z at c.max.ensures.value) in
     record {
-      least = to_z-of_z w32 c.max-larger.result m ∙ e ∙ peak_least c.args.operation.kind c.args.operation.modes c.args.x c.args.y c.in-Peak.is;
-      greatest = to_z-of_z w32 c.max-larger.result m ∙ e ∙ peak_greatest c.args.operation.kind c.args.operation.modes c.args.x c.args.y c.in-Peak.is;
+      least = simp to_z-of_z at c.of.ensures.least ∙ e ∙ peak_least c.args.operation.kind c.args.operation.modes c.args.x c.args.y c.in-Peak.is;
+      greatest = simp to_z-of_z at c.of.ensures.greatest ∙ e ∙ peak_greatest c.args.operation.kind c.args.operation.modes c.args.x c.args.y c.in-Peak.is;
     }

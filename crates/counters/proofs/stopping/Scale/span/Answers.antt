@@ -6,7 +6,8 @@ use Rattle.counters.proofs.stopping.Scale.span.Goals as goal
 
 pub returns : goal.returns
 returns c =
-    let r : SFits w32 c.result-result.result = search rules in
+    let r : SFits w32 c.result.result = search rules in
     let x : SFits w32 c.args.x = c.ranges.x in
     let y : SFits w32 c.args.y = c.ranges.y in
-    rw to_z-of_z (span_alike c.args.self.end c.args.operation.kind _ c.args.x c.args.y _ (simp to_z-of_z at c.result-result.ensures))
+    span_alike c.args.self.end c.args.operation.kind _ c.args.x c.args.y _ _
+    (simp to_z-of_z at c.of.ensures.least) (simp to_z-of_z at c.of.ensures.greatest) (simp to_z-of_z at c.result.ensures)
