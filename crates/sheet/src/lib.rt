@@ -10,5 +10,7 @@ pub use crate::checks::kind_number;
 
 mod calls;
 mod events;
+mod outcome;
 mod rules;
 mod sets;
+mod tying;
