@@ -58,10 +58,9 @@ fn carry_out<C: Catalogue>(sheet: &mut Sheet<C>, command: Command) -> Result<Ans
             sheet.tie(place, drawn).map(|()| Answer::Done)
         }
         Command::Strike { place } => sheet.strike(place).map(|()| Answer::Done),
-        Command::Settle { budget } => {
-            let (outcome, steps) = sheet.settle(budget)?;
-            Ok(Answer::Stepped { outcome, steps })
-        }
+        Command::Settle { budget } => sheet
+            .settle(budget)
+            .map(|(outcome, steps)| Answer::Stepped { outcome, steps }),
         Command::Look { register } => show(sheet, register).map(Answer::Shown),
         Command::Partner { place, x, z } => sheet.partner(place, x, z).map(Answer::Partner),
     }
