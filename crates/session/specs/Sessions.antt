@@ -20,8 +20,6 @@ use Rattle.words.specs.Words.{front, back}
 use Rattle.commands.specs.declared.Command.{Command}
 use Rattle.commands.specs.declared.Command.TheVariants.{Limit, Enter, Strike, Settle, Look, Partner}
 use Rattle.commands.specs.Commands.{command_of}
-use Rattle.session.specs.declared.Board.{Board}
-use Rattle.session.specs.declared.Board.TheVariants.{Binary32, Counter}
 use Rattle.answers.specs.declared.Answer.{Answer}
 use Rattle.answers.specs.Texts.{Reply, ok, refused, stepped, shown as shows, paired, line_of, reply_of}
 
@@ -112,6 +110,11 @@ calls_of_all (l ∷ ls) h = calls_of_all ls (calls_of (command_of l) ++ h)
 pub record Told (m : Meaning) : Type 0 where
   pub leads : (ls : List (List ℕ)) → Leads m (calls_of_all ls []) (table_after_all m ls (new_table m))
   pub goes_on : (ls ks : List (List ℕ)) → answers m (ls ++ ks) (new_table m) ≡ answers m ls (new_table m) ++ answers m ks (table_after_all m ls (new_table m))
+
+-- the catalogues that a script can name
+pub data Board : Type 0 where
+  Binary32 : Board
+  Counter : Board
 
 -- the first line names the catalogue: B for binary32, C for counters
 abbrev pub board_of : List ℕ → Option Board

@@ -2,12 +2,13 @@
 
 #![tactic(auto)]
 
-ghost use Rattle.std.specs.Prelude.{◌≡◌, List, ◌++◌, IfOk, Some, string_bytes};
+ghost use Rattle.std.specs.Prelude.{◌≡◌, List, ◌++◌, IfOk, IfSome, OnOk, Some, string_bytes};
+ghost use Rattle.std.specs.Io.KnownBytes.{Appends};
 ghost use Rattle.answers.specs.Texts.{line_of, refused, reply_of};
 ghost use Rattle.commands.specs.Commands.{command_of};
 ghost use Rattle.promise.specs.Histories.{Call, after};
 ghost use Rattle.promise.specs.Promise.{Consequences, Promise};
-ghost use Rattle.session.specs.Sessions.{Leads, Told, answers, board_of, by_board, calls_of, replied, reply_or, table_after, written_for};
+ghost use Rattle.session.specs.Sessions.{Leads, Told, answers, calls_of, replied, reply_or, table_after, written_for};
 ghost use Rattle.sheet.specs.Rules.{new_table};
 ghost use Rattle.words.specs.Lines.{lines};
 
@@ -22,6 +23,8 @@ use sheet::kind_number;
 use sheet::lines::DrawnLine;
 use sheet::sheet::Sheet;
 use std::alloc::{AllocError, Global};
+use std::io;
+use std::io::{Read, Write};
 use words::line;
 
 /// The longest input that is read as a script.
@@ -131,42 +134,28 @@ fn unreadable(heap: Global) -> Result<String, AllocError>
     Ok(out)
 }
 
-/// The catalogues that a script can name.
-#[derive(Clone, Copy)]
-enum Board {
-    Binary32,
-    Counter,
-}
-
-/// The catalogue that a script's first line names.
-fn board_of(line: &[u8]) -> Option<Board>
-    ensures { result ≡ board_of line.now }
-{
-    match line {
-        [b'B'] => Some(Board::Binary32),
-        [b'C'] => Some(Board::Counter),
-        _ => None,
-    }
-}
-
-/// Answers a script over a catalogue.
-fn answer_over(heap: Global, board: Option<Board>, script: &[u8]) -> Result<String, AllocError>
-    ensures { IfOk result (λ s. string_bytes s ≡ by_board board (lines script.now)) }
-{
-    match board {
-        Some(Board::Binary32) => answer_anew(Binary32::new(), heap, script),
-        Some(Board::Counter) => answer_anew(Counter, heap, script),
-        None => unreadable(heap),
-    }
-}
-
-/// What `ranges` writes for an input.
+/// What is written for an input: the answers to its lines behind the first, which names the catalogue.
 pub fn answer_input(heap: Global, input: &[u8]) -> Result<String, AllocError>
     ensures { IfOk result (λ s. string_bytes s ≡ written_for input.now) }
 {
     if input.len() > MOST_BYTES {
         return unreadable(heap);
     }
-    let (first, script) = line(input);
-    answer_over(heap, board_of(first), script)
+    let (board, script) = line(input);
+    match board {
+        [b'B'] => answer_anew(Binary32::new(), heap, script),
+        [b'C'] => answer_anew(Counter, heap, script),
+        _ => unreadable(heap),
+    }
+}
+
+/// Reads an input to its end and writes what it is answered. An error leaves open how much was read and written.
+pub fn serve<R: Read + Drop, W: Write>(heap: Global, input: R, output: &mut W) -> io::Result<()>
+    ensures { OnOk result (IfSome (R.remaining input) (λ bytes. Appends (W.contents output.old) (W.contents output.new) (written_for bytes))) }
+{
+    let mut bytes = Vec::new(heap);
+    // One byte more than the longest script tells that an input is too long.
+    input.take(MOST_BYTES as u64 + 1).read_to_end(&mut bytes)?;
+    let answers = answer_input(heap, bytes.as_slice())?;
+    output.write_all(answers.as_bytes())
 }
