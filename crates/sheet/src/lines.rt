@@ -3,7 +3,7 @@ ghost use Rattle.std.specs.Prelude.{◌<◌};
 use catalogue::types::{Kind, Modes};
 
 /// A line as it was drawn: any kind, mode set and registers.
-#[derive(Drop)]
+#[derive(Clone, Drop)]
 pub struct DrawnLine {
     pub kind: u32,
     pub modes: u32,
