@@ -42,11 +42,7 @@ impl<C: Catalogue> Used<C> {
 
     /// Makes a limit, and notes it if it was carried out.
     fn limit(&mut self, register: u32, limits: Limits) -> Result<(), AllocError> {
-        if self
-            .sheet
-            .limit(register, limits.low, limits.high)
-            .is_ok()
-        {
+        if self.sheet.limit(register, limits.low, limits.high).is_ok() {
             self.limits.insert(register, limits)?;
         }
         Ok(())

@@ -140,11 +140,7 @@ impl Tally {
     fn count(&mut self, case: Case) -> bool {
         self.cases = self.cases.saturating_add(1);
         let mut everywhere = true;
-        for ((mode, result), agreeing) in MODES
-            .iter()
-            .zip(&case.results)
-            .zip(&mut self.agreeing)
-        {
+        for ((mode, result), agreeing) in MODES.iter().zip(&case.results).zip(&mut self.agreeing) {
             let here = agrees(case.kind, *mode, case.x, case.y, *result);
             *agreeing = agreeing.saturating_add(u32::from(here));
             everywhere = everywhere && here;
