@@ -1,1 +1,2 @@
-mod Glyphs
+-- Lemmas for the proof of the display of an answer.
+pub mod Patterns

@@ -1,14 +1,11 @@
 -- The text of an answer, and the line that it makes.
-use Rattle.std.specs.Prelude.{ℕ, Bool, true, false, cond, List, ◌++◌, Some, None, codes, decimal, Option, ◌==◌}
+use Rattle.std.specs.Prelude.{ℕ, Bool, true, false, List, ◌++◌, Some, None, codes, decimal, Option}
 use Rattle.catalogue.specs.Refusals.{number_of}
 use Rattle.words.specs.Numbers.{written}
 use Rattle.answers.specs.declared.Answer.{Answer}
 use Rattle.answers.specs.declared.Answer.TheVariants.{Done, Declined, Stepped, Shown, Partner}
 use Rattle.sheet.specs.Calls.{outcome_number}
-
--- how a settle ended, by its number
-abbrev pub outcome_text : ℕ → List ℕ
-outcome_text k = cond (k == 0) (codes "settled") (cond (k == 1) (codes "stopped") (codes "void"))
+use Rattle.sheet.specs.Outcomes.{outcome_text}
 
 -- whether the sheet is settled
 abbrev pub state_text : Bool → List ℕ
@@ -27,7 +24,7 @@ abbrev pub reply_of : Answer → Reply
 reply_of Done = ok
 reply_of (Declined refusal) = refused (number_of refusal)
 reply_of (Stepped outcome steps) = stepped (outcome_number outcome) steps
-reply_of (Shown low high settled) = shown low high settled
+reply_of (Shown s) = shown s.low s.high s.settled
 reply_of (Partner pattern) = paired pattern
 
 abbrev pub text_of : Reply → List ℕ

@@ -2,12 +2,12 @@
 
 #![tactic(auto)]
 
-ghost use Rattle.std.specs.Prelude.{◌≡◌, ◌<◌, ◌++◌, is_ok, if◌then◌else◌, Some, string_bytes};
-ghost use Rattle.answers.specs.Texts.{line_of, outcome_text, reply_of, state_text, text_of};
-ghost use Rattle.sheet.specs.Calls.{outcome_number};
-ghost use Rattle.words.specs.Numbers.{glyph_of, written};
+ghost use Rattle.std.specs.Prelude.{◌≡◌, ◌++◌, is_ok, if◌then◌else◌, Some, string_bytes};
+ghost use Rattle.answers.specs.Texts.{line_of, reply_of, state_text, text_of};
+ghost use Rattle.words.specs.Numbers.{written};
 
 use catalogue::types::Refusal;
+use promise::Shown;
 use sheet::table::Outcome;
 use std::alloc::AllocError;
 use std::fmt;
@@ -18,7 +18,7 @@ pub enum Answer {
     Done,
     Declined(Refusal),
     Stepped { outcome: Outcome, steps: u32 },
-    Shown { low: u32, high: u32, settled: bool },
+    Shown(Shown),
     Partner(Option<u32>),
 }
 
@@ -36,37 +36,14 @@ impl fmt::Display for Answer {
     fn fmt<W: fmt::Write>(&self, f: &mut fmt::Formatter<W>) -> fmt::Result {
         match *self {
             Answer::Done => f.write_str("ok"),
-            Answer::Declined(refusal) => {
-                let number = refusal.number();
-                write!(f, "no {number}")
-            }
-            Answer::Stepped { outcome, steps } => {
-                let ended = ended(outcome);
-                write!(f, "{ended} {steps}")
-            }
-            Answer::Shown { low, high, settled } => {
-                let low = Pattern(low);
-                let high = Pattern(high);
-                let state = state(settled);
-                write!(f, "{low} {high} {state}")
+            Answer::Declined(refusal) => write!(f, "no {}", u8::from(refusal)),
+            Answer::Stepped { outcome, steps } => write!(f, "{outcome} {steps}"),
+            Answer::Shown(Shown { low, high, settled }) => {
+                write!(f, "{} {} {}", Pattern(low), Pattern(high), state(settled))
             }
             Answer::Partner(None) => f.write_str("none"),
-            Answer::Partner(Some(pattern)) => {
-                let pattern = Pattern(pattern);
-                write!(f, "{pattern}")
-            }
+            Answer::Partner(Some(pattern)) => write!(f, "{}", Pattern(pattern)),
         }
-    }
-}
-
-/// How a settle's answer names its outcome.
-fn ended(outcome: Outcome) -> &'static str
-    ensures { result.now ≡ outcome_text (outcome_number outcome) }
-{
-    match outcome {
-        Outcome::Settled => "settled",
-        Outcome::Stopped => "stopped",
-        Outcome::Void => "void",
     }
 }
 
@@ -84,29 +61,9 @@ struct Pattern(u32);
 impl fmt::Display for Pattern {
     ghost output = { λ p. Some (written p.0) };
 
+    #[tactic(auto, using(crate::proofs::Patterns::hex_pattern))]
     fn fmt<W: fmt::Write>(&self, f: &mut fmt::Formatter<W>) -> fmt::Result {
         let n = self.0;
-        let a = glyph(n / 0x1000_0000 % 16);
-        let b = glyph(n / 0x100_0000 % 16);
-        let c = glyph(n / 0x10_0000 % 16);
-        let d = glyph(n / 0x1_0000 % 16);
-        let e = glyph(n / 0x1000 % 16);
-        let g = glyph(n / 0x100 % 16);
-        let h = glyph(n / 0x10 % 16);
-        let i = glyph(n % 16);
-        write!(f, "{a}{b}{c}{d}{e}{g}{h}{i}")
-    }
-}
-
-/// The hexadecimal digit that is worth `d`.
-fn glyph(d: u32) -> char
-    requires { d < 16 }
-    ensures { result ≡ glyph_of d }
-{
-    let d = d as u8;
-    if d < 10 {
-        char::from(b'0' + d)
-    } else {
-        char::from(b'A' + (d - 10))
+        write!(f, "{n:08X}")
     }
 }

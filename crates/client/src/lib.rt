@@ -17,14 +17,7 @@ pub fn tie(sheet: &mut Sheet<Counter>, place: u32, line: DrawnLine) -> Result<()
     ensures answer { numbered result ≡ drawn_asked place (checked line) sheet.old.table }
     ensures table { sheet.new.table ≡ drawn_table counter place (checked line) sheet.old.table }
 {
-    let line = line.check()?;
-    match sheet.enter(place, line) {
-        Ok(()) => Ok(()),
-        Err(back) => {
-            let (refusal, _line) = back;
-            Err(refusal)
-        }
-    }
+    sheet.tie(place, line)
 }
 
 /// Looks at a register, and once the look has ended makes one step.

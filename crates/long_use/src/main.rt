@@ -5,13 +5,14 @@
 
 use binary32::binary32::Binary32;
 use catalogue::interface::Catalogue;
-use catalogue::types::Kind;
 use commands::{Command, read};
 use counters::counter::Counter;
 use sheet::lines::DrawnLine;
 use sheet::sheet::Sheet;
 use sheet::table::Outcome;
-use std::{fs, io};
+use std::alloc::{AllocError, Global};
+use std::collections::BTreeMap;
+use std::{fmt, fs, io};
 use words::line;
 
 /// Limits as they were asked for, by pattern.
@@ -21,75 +22,55 @@ struct Limits {
     high: u32,
 }
 
-/// A line as it was drawn.
-#[derive(Clone, Copy)]
-struct Drawing {
-    kind: u32,
-    modes: u32,
-    x: u32,
-    y: u32,
-    z: u32,
+/// A sheet in use, with the limits and lines that stand on it, kept from the calls alone.
+#[derive(Drop)]
+struct Used<C: Catalogue> {
+    sheet: Sheet<C>,
+    limits: BTreeMap<u32, Limits>,
+    lines: BTreeMap<u32, DrawnLine>,
 }
 
-impl Drawing {
-    fn drawn(self) -> DrawnLine {
-        DrawnLine {
-            kind: self.kind,
-            modes: self.modes,
-            x: self.x,
-            y: self.y,
-            z: self.z,
-        }
-    }
-}
-
-/// The limits and lines that stand, kept from the calls alone.
-#[derive(Clone, Copy)]
-struct Ledger {
-    limits: [Option<Limits>; 32],
-    lines: [Option<Drawing>; 64],
-}
-
-impl Ledger {
-    fn new() -> Ledger {
-        Ledger {
-            limits: [None; 32],
-            lines: [None; 64],
+impl<C: Catalogue> Used<C> {
+    fn new(heap: Global, catalogue: C) -> Self {
+        Used {
+            sheet: Sheet::new(catalogue),
+            limits: BTreeMap::new(heap),
+            lines: BTreeMap::new(heap),
         }
     }
 
     /// Makes a limit, and notes it if it was carried out.
-    fn limit<C: Catalogue>(&mut self, sheet: &mut Sheet<C>, register: u32, limits: Limits) {
-        let done = sheet.limit(register, limits.low, limits.high).is_ok();
-        if done && register < 32 {
-            self.limits[register as usize] = Some(limits);
+    fn limit(&mut self, register: u32, limits: Limits) -> Result<(), AllocError> {
+        if self.sheet.limit(register, limits.low, limits.high).is_ok() {
+            self.limits.insert(register, limits)?;
         }
+        Ok(())
     }
 
     /// Enters a line, and notes it if it was carried out.
-    fn enter<C: Catalogue>(&mut self, sheet: &mut Sheet<C>, place: u32, drawing: Drawing) {
-        let done = enter(sheet, place, drawing);
-        if done && place < 64 {
-            self.lines[place as usize] = Some(drawing);
+    fn tie(&mut self, place: u32, line: DrawnLine) -> Result<(), AllocError> {
+        let noted = line.clone()?;
+        if self.sheet.tie(place, line).is_ok() {
+            self.lines.insert(place, noted)?;
         }
+        Ok(())
     }
 
-    /// Strikes a line, and notes it if it was carried out.
-    fn strike<C: Catalogue>(&mut self, sheet: &mut Sheet<C>, place: u32) {
-        let done = sheet.strike(place).is_ok();
-        if done && place < 64 {
-            self.lines[place as usize] = None;
+    /// Strikes a line, and drops its note if it was carried out.
+    fn strike(&mut self, place: u32) {
+        if self.sheet.strike(place).is_ok() {
+            let _ = self.lines.remove(&place);
         }
     }
 
     /// Carries out a command of a script.
-    fn carry_out<C: Catalogue>(&mut self, sheet: &mut Sheet<C>, command: Command) {
+    fn carry_out(&mut self, command: Command) -> Result<(), AllocError> {
         match command {
             Command::Limit {
                 register,
                 low,
                 high,
-            } => self.limit(sheet, register, Limits { low, high }),
+            } => self.limit(register, Limits { low, high })?,
             Command::Enter {
                 place,
                 kind,
@@ -99,72 +80,57 @@ impl Ledger {
                 z,
             } => {
                 let kind = u32::from(u8::from(kind));
-                self.enter(
-                    sheet,
-                    place,
-                    Drawing {
-                        kind,
-                        modes,
-                        x,
-                        y,
-                        z,
-                    },
-                );
+                let line = DrawnLine {
+                    kind,
+                    modes,
+                    x,
+                    y,
+                    z,
+                };
+                self.tie(place, line)?;
             }
-            Command::Strike { place } => self.strike(sheet, place),
+            Command::Strike { place } => self.strike(place),
             Command::Settle { budget } => {
-                let _ = sheet.settle(budget);
+                let _ = self.sheet.settle(budget);
             }
             Command::Look { register } => {
-                let _ = look_at(sheet, register);
+                let _ = look_at(&self.sheet, register);
             }
             Command::Partner { place, x, z } => {
-                let _ = sheet.partner(place, x, z);
+                let _ = self.sheet.partner(place, x, z);
             }
         }
+        Ok(())
     }
 
     /// A new sheet with these limits and lines, the lines at other places.
-    fn renewed<C: Catalogue>(&self, catalogue: C) -> Sheet<C> {
+    fn renewed(&self, catalogue: C) -> Result<Sheet<C>, AllocError>
+    where
+        C: Drop,
+    {
         let mut sheet = Sheet::new(catalogue);
-        for (register, limits) in self.limits.iter().enumerate() {
-            if let Some(limits) = limits {
-                let _ = sheet.limit(register as u32, limits.low, limits.high);
-            }
+        for (register, limits) in &self.limits {
+            let _ = sheet.limit(*register, limits.low, limits.high);
         }
-        for (place, line) in self.lines.iter().enumerate() {
-            if let Some(drawing) = line {
-                let _ = enter(&mut sheet, 63 - (place as u32).min(63), *drawing);
-            }
+        for (place, line) in &self.lines {
+            let _ = sheet.tie(63u32.saturating_sub(*place), line.clone()?);
         }
-        sheet
-    }
-}
-
-/// Has a line checked and entered; whether it was.
-fn enter<C: Catalogue>(sheet: &mut Sheet<C>, place: u32, drawing: Drawing) -> bool {
-    match drawing.drawn().check() {
-        Ok(line) => sheet.enter(place, line).is_ok(),
-        Err(_) => false,
+        Ok(sheet)
     }
 }
 
 /// A register's range by patterns, unless the sheet is void or has no such register.
 fn look_at<C: Catalogue>(sheet: &Sheet<C>, register: u32) -> Option<(u32, u32)> {
-    match sheet.look() {
-        Ok(look) => look.patterns(register).ok(),
-        Err(_) => None,
-    }
+    let look = sheet.look().ok()?;
+    look.patterns(register).ok()
 }
 
 /// Settles until rest, or until a good many budgets are spent: how it ended.
 fn settle_out<C: Catalogue>(sheet: &mut Sheet<C>) -> Outcome {
     for _ in 0..16 {
         match sheet.settle(65_535) {
-            Ok((Outcome::Settled, _)) => return Outcome::Settled,
-            Ok((Outcome::Void, _)) => return Outcome::Void,
-            Ok((Outcome::Stopped, _)) => {}
-            Err(_) => {}
+            Ok((Outcome::Stopped, _)) | Err(_) => {}
+            Ok((outcome, _)) => return outcome,
         }
     }
     Outcome::Stopped
@@ -172,12 +138,7 @@ fn settle_out<C: Catalogue>(sheet: &mut Sheet<C>) -> Outcome {
 
 /// Whether two sheets show the same range at every register.
 fn show_the_same<C: Catalogue>(a: &Sheet<C>, b: &Sheet<C>) -> bool {
-    for register in 0..32 {
-        if look_at(a, register) != look_at(b, register) {
-            return false;
-        }
-    }
-    true
+    (0..32).all(|register| look_at(a, register) == look_at(b, register))
 }
 
 /// How two sheets with the same limits and lines compare.
@@ -189,79 +150,76 @@ enum Compared {
     Different,
 }
 
+impl fmt::Display for Compared {
+    fn fmt<W: fmt::Write>(&self, f: &mut fmt::Formatter<W>) -> fmt::Result {
+        f.write_str(match *self {
+            Compared::BothSettled => "both settled, and alike",
+            Compared::BothVoid => "both void, and alike",
+            Compared::NotAtRest => "not at rest yet",
+            Compared::Different => "DIFFERENT",
+        })
+    }
+}
+
 fn compare<C: Catalogue>(used: &mut Sheet<C>, new: &mut Sheet<C>) -> Compared {
     match (settle_out(used), settle_out(new)) {
-        (Outcome::Settled, Outcome::Settled) => if show_the_same(used, new) {
-            Compared::BothSettled
-        } else {
-            Compared::Different
-        },
+        (Outcome::Settled, Outcome::Settled) if show_the_same(used, new) => Compared::BothSettled,
         (Outcome::Void, Outcome::Void) => Compared::BothVoid,
-        (Outcome::Stopped, _) => Compared::NotAtRest,
-        (_, Outcome::Stopped) => Compared::NotAtRest,
-        (Outcome::Settled, Outcome::Void) => Compared::Different,
-        (Outcome::Void, Outcome::Settled) => Compared::Different,
+        (Outcome::Stopped, _) | (_, Outcome::Stopped) => Compared::NotAtRest,
+        _ => Compared::Different,
     }
 }
 
 /// Replays a script on a sheet, and keeps what stands.
-fn replay<C: Catalogue>(sheet: &mut Sheet<C>, script: &[u8]) -> Ledger {
-    let mut ledger = Ledger::new();
+fn replay<C: Catalogue>(used: &mut Used<C>, script: &[u8]) -> Result<(), AllocError> {
     let mut rest = script;
     while !rest.is_empty() {
         let (next, tail) = line(rest);
         if let Some(command) = read(next) {
-            ledger.carry_out(sheet, command);
+            used.carry_out(command)?;
         }
         rest = tail;
     }
-    ledger
+    Ok(())
 }
 
-fn print_range(
-    rt: &impl Print,
-    register: u32,
+/// What a used and a new sheet show of one register.
+#[derive(Clone, Copy)]
+struct Beside {
     used: Option<(u32, u32)>,
     new: Option<(u32, u32)>,
-) -> io::Result<()> {
-    match (used, new) {
-        (Some((a, b)), Some((c, d))) => println!(rt;
-            "register {register}: used {a:08X} {b:08X}, new {c:08X} {d:08X}"
-        ),
-        (None, None) => println!(rt; "register {register}: used void, new void"),
-        _ => println!(rt; "register {register}: one of the two is void"),
-    }
 }
 
-fn print_compared(rt: &impl Print, compared: Compared) -> io::Result<()> {
-    match compared {
-        Compared::BothSettled => println!(rt; "both settled, and alike"),
-        Compared::BothVoid => println!(rt; "both void, and alike"),
-        Compared::NotAtRest => println!(rt; "not at rest yet"),
-        Compared::Different => println!(rt; "DIFFERENT"),
+impl fmt::Display for Beside {
+    fn fmt<W: fmt::Write>(&self, f: &mut fmt::Formatter<W>) -> fmt::Result {
+        match (self.used, self.new) {
+            (Some((a, b)), Some((c, d))) => write!(f, "used {a:08X} {b:08X}, new {c:08X} {d:08X}"),
+            (None, None) => f.write_str("used void, new void"),
+            _ => f.write_str("one of the two is void"),
+        }
     }
 }
 
 /// A script replayed on one sheet, beside a new sheet with what stands at its end.
 fn replay_beside_new<C: Catalogue + Copy + Drop>(
     rt: &impl Print,
+    heap: Global,
     catalogue: C,
     script: &[u8],
 ) -> io::Result<()> {
     let (_board, commands) = line(script);
-    let mut used = Sheet::new(catalogue);
-    let ledger = replay(&mut used, commands);
-    let mut new = ledger.renewed(catalogue);
-    let compared = compare(&mut used, &mut new);
+    let mut used = Used::new(heap, catalogue);
+    replay(&mut used, commands)?;
+    let mut new = used.renewed(catalogue)?;
+    let compared = compare(&mut used.sheet, &mut new);
     for register in 0..32 {
-        print_range(
-            rt,
-            register,
-            look_at(&used, register),
-            look_at(&new, register),
-        )?;
+        let beside = Beside {
+            used: look_at(&used.sheet, register),
+            new: look_at(&new, register),
+        };
+        println!(rt; "register {register}: {beside}")?;
     }
-    print_compared(rt, compared)
+    println!(rt; "{compared}")
 }
 
 /// A fixed rule for numbers that look random.
@@ -279,55 +237,53 @@ impl Numbers {
             .wrapping_add(1_442_695_040_888_963_407);
         ((self.state >> 33) % u64::from(limit.max(1))) as u32
     }
-}
 
-/// Patterns of readings that lie close together, from `base` on.
-fn limits_near(numbers: &mut Numbers, base: u32) -> Limits {
-    let low = numbers.below(2_000);
-    let width = numbers.below(3_000);
-    Limits {
-        low: base.saturating_add(low),
-        high: base.saturating_add(low).saturating_add(width),
+    /// Patterns of readings that lie close together, from `base` on.
+    fn limits_near(&mut self, base: u32) -> Limits {
+        let low = base.saturating_add(self.below(2_000));
+        Limits {
+            low,
+            high: low.saturating_add(self.below(3_000)),
+        }
+    }
+
+    /// A line that may not pass the check.
+    fn line(&mut self) -> DrawnLine {
+        DrawnLine {
+            kind: self.below(3),
+            modes: self.below(17),
+            x: self.below(33),
+            y: self.below(12),
+            z: self.below(33),
+        }
     }
 }
 
 /// One change by the rule: a limit, an enter, a strike, and now and then a settle that may stop.
 fn change<C: Catalogue>(
-    sheet: &mut Sheet<C>,
-    ledger: &mut Ledger,
+    used: &mut Used<C>,
     numbers: &mut Numbers,
     base: u32,
-) {
+) -> Result<(), AllocError> {
     match numbers.below(8) {
-        0 | 1 | 2 => {
+        0..=2 => {
             let register = numbers.below(12);
-            let limits = limits_near(numbers, base);
-            ledger.limit(sheet, register, limits);
+            used.limit(register, numbers.limits_near(base))?;
         }
         3 | 4 => {
-            let drawing = Drawing {
-                kind: numbers.below(3),
-                modes: numbers.below(17),
-                x: numbers.below(33),
-                y: numbers.below(12),
-                z: numbers.below(33),
-            };
-            let place = numbers.below(12);
-            ledger.enter(sheet, place, drawing);
+            let line = numbers.line();
+            used.tie(numbers.below(12), line)?;
         }
-        5 | 6 => {
-            let place = numbers.below(12);
-            ledger.strike(sheet, place);
-        }
+        5 | 6 => used.strike(numbers.below(12)),
         _ => {
-            let budget = numbers.below(12);
-            let _ = sheet.settle(budget);
+            let _ = used.sheet.settle(numbers.below(12));
         }
     }
+    Ok(())
 }
 
 /// How many comparisons came out how.
-#[derive(Clone, Copy)]
+#[derive(Clone, Copy, Default)]
 struct Counts {
     settled: u32,
     void: u32,
@@ -337,56 +293,61 @@ struct Counts {
 
 impl Counts {
     fn note(&mut self, compared: Compared) {
-        match compared {
-            Compared::BothSettled => self.settled = self.settled.saturating_add(1),
-            Compared::BothVoid => self.void = self.void.saturating_add(1),
-            Compared::NotAtRest => self.not_at_rest = self.not_at_rest.saturating_add(1),
-            Compared::Different => self.different = self.different.saturating_add(1),
-        }
+        let count = match compared {
+            Compared::BothSettled => &mut self.settled,
+            Compared::BothVoid => &mut self.void,
+            Compared::NotAtRest => &mut self.not_at_rest,
+            Compared::Different => &mut self.different,
+        };
+        *count = count.saturating_add(1);
+    }
+}
+
+impl fmt::Display for Counts {
+    fn fmt<W: fmt::Write>(&self, f: &mut fmt::Formatter<W>) -> fmt::Result {
+        let Counts {
+            settled,
+            void,
+            not_at_rest,
+            different,
+        } = *self;
+        write!(
+            f,
+            "{settled} settled and alike, {void} void and alike, {not_at_rest} not at rest, {different} different"
+        )
     }
 }
 
 /// A hundred thousand changes, with a comparison every thousand.
-fn soak<C: Catalogue + Copy + Drop>(catalogue: C, base: u32) -> Counts {
-    let mut counts = Counts {
-        settled: 0,
-        void: 0,
-        not_at_rest: 0,
-        different: 0,
-    };
+fn soak<C: Catalogue + Copy + Drop>(
+    heap: Global,
+    catalogue: C,
+    base: u32,
+) -> Result<Counts, AllocError> {
+    let mut counts = Counts::default();
     let mut numbers = Numbers { state: 754 };
-    let mut used = Sheet::new(catalogue);
-    let mut ledger = Ledger::new();
+    let mut used = Used::new(heap, catalogue);
     for _ in 0..100 {
         for _ in 0..1_000 {
-            change(&mut used, &mut ledger, &mut numbers, base);
+            change(&mut used, &mut numbers, base)?;
         }
-        let mut new = ledger.renewed(catalogue);
-        counts.note(compare(&mut used, &mut new));
+        let mut new = used.renewed(catalogue)?;
+        counts.note(compare(&mut used.sheet, &mut new));
     }
-    counts
-}
-
-fn print_counts(rt: &impl Print, name: &str, counts: Counts) -> io::Result<()> {
-    let Counts {
-        settled,
-        void,
-        not_at_rest,
-        different,
-    } = counts;
-    println!(rt;
-        "{name}: 100000 changes, 100 comparisons: {settled} settled and alike, {void} void and alike, {not_at_rest} not at rest, {different} different"
-    )
+    Ok(counts)
 }
 
 fn main(rt: HostRuntime) -> anyhow::Result<()> {
+    let heap = rt.alloc();
     let counter = fs::read(&rt, "long_use_c.txt")?;
     let binary = fs::read(&rt, "long_use_b.txt")?;
     println!(rt; "a counter sheet")?;
-    replay_beside_new(&rt, Counter, counter.as_slice())?;
+    replay_beside_new(&rt, heap, Counter, counter.as_slice())?;
     println!(rt; "a binary32 sheet")?;
-    replay_beside_new(&rt, Binary32::new(), binary.as_slice())?;
-    print_counts(&rt, "counter", soak(Counter, 0))?;
-    print_counts(&rt, "binary32", soak(Binary32::new(), 0x3F80_0000))?;
+    replay_beside_new(&rt, heap, Binary32::new(), binary.as_slice())?;
+    let counter = soak(heap, Counter, 0)?;
+    println!(rt; "counter: 100000 changes, 100 comparisons: {counter}")?;
+    let binary = soak(heap, Binary32::new(), 0x3F80_0000)?;
+    println!(rt; "binary32: 100000 changes, 100 comparisons: {binary}")?;
     Ok(())
 }

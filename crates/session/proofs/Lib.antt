@@ -1,2 +1,3 @@
 -- Lemmas for the proofs of functions.
+pub mod Inputs
 mod Replies

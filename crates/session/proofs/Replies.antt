@@ -28,9 +28,6 @@ pub answers_all : (m : Meaning) (t : Table) (o xs all : List ℕ) → true ≡ e
 answers_all m t o [] all e i = sym (append-nil o) ∙ i
 answers_all m t o (b ∷ bs) all e i = absurd (omega (arith, eqb-true (length (b ∷ bs)) 0 (sym e)))
 
-pub answers_new : (m n : Meaning) (t : Table) (ls : List (List ℕ)) → n ≡ m → t ≡ new_table m → answers n ls t ≡ answers m ls (new_table m)
-answers_new m n t ls e f = ap (λ k. answers k ls t) e ∙ ap (answers m ls) f
-
 -- ---- histories: a command leaves what its call leaves
 
 entered_after : (m : Meaning) (n : ℕ) (h : List Call) (q : Result Line ℕ) → Passed q → drawn_table m n q (after m h) ≡ after m (entering n q ++ h)

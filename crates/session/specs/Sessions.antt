@@ -1,7 +1,9 @@
 -- A script and its answers: what each command is answered and leaves on the sheet, and what a whole script is answered.
 use Rattle.std.specs.Prelude.{◌≡◌, ℕ, Bool, cond, List, [], ◌∷◌, ◌++◌, length, drop, Some, None, Ok, Err, Option, Result, ◌==◌, nat_lt}
 use Rattle.catalogue.specs.declared.types.Kind.{Kind}
+use Rattle.catalogue.specs.declared.types.Refusal.{Refusal}
 use Rattle.catalogue.specs.Meanings.{Meaning}
+use Rattle.catalogue.specs.Refusals.{number_of}
 use Rattle.binary32.specs.Binary32.{binary}
 use Rattle.counters.specs.Counters.{counter}
 use Rattle.sheet.specs.declared.lines.DrawnLine.{DrawnLine}
@@ -19,9 +21,8 @@ use Rattle.words.specs.Words.{front, back}
 use Rattle.commands.specs.declared.Command.{Command}
 use Rattle.commands.specs.declared.Command.TheVariants.{Limit, Enter, Strike, Settle, Look, Partner}
 use Rattle.commands.specs.Commands.{command_of}
-use Rattle.session.specs.declared.Board.{Board}
-use Rattle.session.specs.declared.Board.TheVariants.{Binary32, Counter}
-use Rattle.answers.specs.Texts.{Reply, ok, refused, stepped, shown as shows, paired, line_of}
+use Rattle.answers.specs.declared.Answer.{Answer}
+use Rattle.answers.specs.Texts.{Reply, ok, refused, stepped, shown as shows, paired, line_of, reply_of}
 
 -- ---- one command
 
@@ -45,6 +46,11 @@ shown_or (Err e) = refused e
 abbrev pub paired_or : Result (Option ℕ) ℕ → Reply
 paired_or (Ok y) = paired y
 paired_or (Err e) = refused e
+
+-- what was answered, or the refusal
+abbrev pub reply_or : Result Answer Refusal → Reply
+reply_or (Ok a) = reply_of a
+reply_or (Err e) = refused (number_of e)
 
 -- what a line of a script is answered; one that stands for no command is unreadable
 abbrev pub replied : Meaning → Option Command → Table → Reply
@@ -105,6 +111,11 @@ calls_of_all (l ∷ ls) h = calls_of_all ls (calls_of (command_of l) ++ h)
 pub record Told (m : Meaning) : Type 0 where
   pub leads : (ls : List (List ℕ)) → Leads m (calls_of_all ls []) (table_after_all m ls (new_table m))
   pub goes_on : (ls ks : List (List ℕ)) → answers m (ls ++ ks) (new_table m) ≡ answers m ls (new_table m) ++ answers m ks (table_after_all m ls (new_table m))
+
+-- the catalogues that a script can name
+pub data Board : Type 0 where
+  Binary32 : Board
+  Counter : Board
 
 -- the first line names the catalogue: B for binary32, C for counters
 abbrev pub board_of : List ℕ → Option Board

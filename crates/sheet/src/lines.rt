@@ -4,7 +4,7 @@ use crate::registers::Register;
 use catalogue::types::Operation;
 
 /// A line as it was drawn: any kind, mode set and registers.
-#[derive(Debug, PartialEq, Eq, Drop)]
+#[derive(Clone, Debug, PartialEq, Eq, Drop)]
 pub struct DrawnLine {
     pub kind: u32,
     pub modes: u32,

@@ -2,7 +2,7 @@
 
 #![tactic(auto)]
 
-ghost use Rattle.std.specs.Prelude.{◌≡◌, ◌<◌};
+ghost use Rattle.std.specs.Prelude.{◌≡◌};
 ghost use Rattle.catalogue.specs.Operations.{equal as Equal};
 ghost use Rattle.vectors.specs.Vectors.{agreement, expected as Expected};
 ghost use Rattle.binary32.specs.Binary32.{binary};
@@ -11,37 +11,34 @@ use binary32::binary32::Binary32;
 use catalogue::arithmetic::Arithmetic;
 use catalogue::interface::Catalogue;
 use catalogue::types::{Kind, Mode, Modes};
-use std::{fs, io};
+use std::{fmt, fs};
 use words::{line, pattern, word};
 
 /// The rank beyond the greatest reading.
 const BEYOND: i32 = 2_139_095_040;
 
-/// One published case: an operation, its operands, and its results under the four modes, as patterns.
+/// The rounding modes, in the order in which a case has its results.
+const MODES: [Mode; 4] = [Mode::Nearest, Mode::Up, Mode::Down, Mode::TowardZero];
+
+/// One published case: an operation, its operands, and its results under the modes, as patterns.
 #[derive(Clone, Copy)]
 struct Case {
     kind: Kind,
     x: u32,
     y: u32,
-    nearest: u32,
-    up: u32,
-    down: u32,
-    toward_zero: u32,
+    results: [u32; 4],
     exact: bool,
 }
 
 /// How many cases of a class there are, and how many agree under each mode.
-#[derive(Clone, Copy)]
+#[derive(Clone, Copy, Default)]
 struct Tally {
     cases: u32,
-    nearest: u32,
-    up: u32,
-    down: u32,
-    toward_zero: u32,
+    agreeing: [u32; 4],
 }
 
 /// The tallies of all classes, the lines that are no cases, and the first line that does not agree.
-#[derive(Clone, Copy)]
+#[derive(Clone, Copy, Default)]
 struct Report {
     exact_sums: Tally,
     rounded_sums: Tally,
@@ -55,24 +52,21 @@ struct Report {
 fn rank(pattern: u32) -> Option<i32>
     ensures { result ≡ binary.reads pattern }
 {
-    match Binary32::new().rank(pattern) {
-        Ok(rank) => Some(rank),
-        Err(_) => None,
-    }
+    Binary32::new().rank(pattern).ok()
 }
 
 /// The rank that a published result stands for: an infinity lies beyond the readings.
-fn expected(res: u32) -> Option<i32>
-    ensures { result ≡ Expected res }
+fn expected(published: u32) -> Option<i32>
+    ensures { result ≡ Expected published }
 {
-    match rank(res) {
-        Some(rank) => Some(rank),
-        None if res == 0x7F80_0000 => Some(BEYOND),
-        None if res == 0xFF80_0000 => Some(-BEYOND),
-        None => None,
+    match published {
+        0x7F80_0000 => Some(BEYOND),
+        0xFF80_0000 => Some(-BEYOND),
+        _ => rank(published),
     }
 }
 
+/// Whether two ranks are equal. A function, since the proof of `agrees` doesn't close with `==` in its place.
 fn equal(v: i32, w: i32) -> bool
     ensures { result ≡ Equal v w }
 {
@@ -80,22 +74,16 @@ fn equal(v: i32, w: i32) -> bool
 }
 
 /// Whether the catalogue gives a published result under one mode.
-fn agrees(kind: Kind, mode: Mode, x: u32, y: u32, res: u32) -> bool
-    ensures { result ≡ agreement kind mode x y res }
+fn agrees(kind: Kind, mode: Mode, x: u32, y: u32, published: u32) -> bool
+    ensures { result ≡ agreement kind mode x y published }
 {
-    let Some(x) = rank(x) else {
-        return false;
-    };
-    let Some(y) = rank(y) else {
-        return false;
-    };
-    let Some(res) = expected(res) else {
-        return false;
-    };
-    equal(
-        Binary32::new().span(kind, Modes::only(mode), x, y).least,
-        res,
-    )
+    match (rank(x), rank(y), expected(published)) {
+        (Some(x), Some(y), Some(expected)) => {
+            let span = Binary32::new().span(kind, Modes::only(mode), x, y);
+            equal(span.least, expected)
+        }
+        _ => false,
+    }
 }
 
 /// The pattern behind a space, and the rest behind it.
@@ -142,71 +130,38 @@ fn read_case(line: &[u8]) -> Option<Case> {
         kind,
         x,
         y,
-        nearest,
-        up,
-        down,
-        toward_zero,
+        results: [nearest, up, down, toward_zero],
         exact,
     })
 }
 
 impl Tally {
-    fn none() -> Tally {
-        Tally {
-            cases: 0,
-            nearest: 0,
-            up: 0,
-            down: 0,
-            toward_zero: 0,
-        }
-    }
-
-    /// Counts a case; false where it does not agree under every mode.
+    /// Counts a case, and says whether it agrees under every mode.
     fn count(&mut self, case: Case) -> bool {
-        let nearest = agrees(case.kind, Mode::Nearest, case.x, case.y, case.nearest);
-        let up = agrees(case.kind, Mode::Up, case.x, case.y, case.up);
-        let down = agrees(case.kind, Mode::Down, case.x, case.y, case.down);
-        let toward_zero = agrees(
-            case.kind,
-            Mode::TowardZero,
-            case.x,
-            case.y,
-            case.toward_zero,
-        );
         self.cases = self.cases.saturating_add(1);
-        self.nearest = self.nearest.saturating_add(u32::from(nearest));
-        self.up = self.up.saturating_add(u32::from(up));
-        self.down = self.down.saturating_add(u32::from(down));
-        self.toward_zero = self.toward_zero.saturating_add(u32::from(toward_zero));
-        nearest && up && down && toward_zero
+        let mut everywhere = true;
+        for ((mode, result), agreeing) in MODES.iter().zip(&case.results).zip(&mut self.agreeing) {
+            let here = agrees(case.kind, *mode, case.x, case.y, *result);
+            *agreeing = agreeing.saturating_add(u32::from(here));
+            everywhere = everywhere && here;
+        }
+        everywhere
     }
+}
 
-    fn print(&self, rt: &impl Print, class: &str) -> io::Result<()> {
+impl fmt::Display for Tally {
+    fn fmt<W: fmt::Write>(&self, f: &mut fmt::Formatter<W>) -> fmt::Result {
         let cases = self.cases;
-        let nearest = self.nearest;
-        let up = self.up;
-        let down = self.down;
-        let toward_zero = self.toward_zero;
-        println!(rt;
-            "{class}: {cases} cases; nearest {nearest}, up {up}, down {down}, toward zero {toward_zero}"
+        let [nearest, up, down, toward_zero] = self.agreeing;
+        write!(
+            f,
+            "{cases} cases; nearest {nearest}, up {up}, down {down}, toward zero {toward_zero}"
         )
     }
 }
 
 impl Report {
-    fn none() -> Report {
-        let none = Tally::none();
-        Report {
-            exact_sums: none,
-            rounded_sums: none,
-            exact_differences: none,
-            rounded_differences: none,
-            unreadable: 0,
-            first_mismatch: None,
-        }
-    }
-
-    /// Counts a case in its class; false where it does not agree.
+    /// Counts a case in its class, and says whether it agrees under every mode.
     fn count(&mut self, case: Case) -> bool {
         match (case.kind, case.exact) {
             (Kind::Sum, true) => self.exact_sums.count(case),
@@ -218,22 +173,33 @@ impl Report {
 
     /// Takes in the line with a number.
     fn take_in(&mut self, line: &[u8], number: u32) {
-        let agreed = match read_case(line) {
-            Some(case) => self.count(case),
-            None => {
-                self.unreadable = self.unreadable.saturating_add(1);
-                true
-            }
+        let Some(case) = read_case(line) else {
+            self.unreadable = self.unreadable.saturating_add(1);
+            return;
         };
-        if !agreed && self.first_mismatch.is_none() {
-            self.first_mismatch = Some(number);
+        if !self.count(case) {
+            self.first_mismatch = self.first_mismatch.or(Some(number));
+        }
+    }
+}
+
+impl fmt::Display for Report {
+    fn fmt<W: fmt::Write>(&self, f: &mut fmt::Formatter<W>) -> fmt::Result {
+        writeln!(f, "exact sums: {}", self.exact_sums)?;
+        writeln!(f, "rounded sums: {}", self.rounded_sums)?;
+        writeln!(f, "exact differences: {}", self.exact_differences)?;
+        writeln!(f, "rounded differences: {}", self.rounded_differences)?;
+        writeln!(f, "lines that are no case: {}", self.unreadable)?;
+        match self.first_mismatch {
+            Some(number) => write!(f, "first mismatch: line {number}"),
+            None => f.write_str("no mismatch"),
         }
     }
 }
 
 /// Runs every line of a text.
 fn run(text: &[u8]) -> Report {
-    let mut report = Report::none();
+    let mut report = Report::default();
     let mut rest = text;
     let mut number: u32 = 0;
     while !rest.is_empty() {
@@ -248,17 +214,6 @@ fn run(text: &[u8]) -> Report {
 fn main(rt: HostRuntime) -> anyhow::Result<()> {
     let text = fs::read(&rt, "binary32-add-sub.txt")?;
     let report = run(text.as_slice());
-    report.exact_sums.print(&rt, "exact sums")?;
-    report.rounded_sums.print(&rt, "rounded sums")?;
-    report.exact_differences.print(&rt, "exact differences")?;
-    report
-        .rounded_differences
-        .print(&rt, "rounded differences")?;
-    let unreadable = report.unreadable;
-    println!(rt; "lines that are no case: {unreadable}")?;
-    match report.first_mismatch {
-        Some(number) => println!(rt; "first mismatch: line {number}")?,
-        None => println!(rt; "no mismatch")?,
-    }
+    println!(rt; "{report}")?;
     Ok(())
 }

@@ -1,22 +1,16 @@
-use Rattle.std.proofs.Common.{◌≡◌, ap, ◌∙◌, rules}
 use Rattle.commands.specs.Commands.{command_of}
 use Rattle.promise.proofs.Promised.{promise_kept, consequences_kept}
-use Rattle.session.specs.Sessions.{table_after}
 use Rattle.session.proofs.Replies.{leads_on}
 use Rattle.session.proofs.answer.Goals as goal
 
-pub returns : goal.returns
-returns g c =
+pub returns-clause-history : goal.returns-clause-history
+returns-clause-history g c =
     let m = g.C.Catalogue.meaning c.args.sheet.now.catalogue in
     let laws = g.met.C.Catalogue.laws c.args.sheet.now.catalogue in
-    let t = c.args.sheet.now.table in
-    let k = command_of c.args.line.now in
-    let left : c.respond.new.sheet.table ≡ table_after m k t = c.respond.ensures.table ∙ ap (λ o. table_after m o t) c.read.ensures.value in
-    record {
-      answer = search rules;
-      table = left;
-      catalogue = search rules;
-      history = λ h e. leads_on m laws k h t _ left e;
-      promise = promise_kept m laws;
-      consequences = consequences_kept m laws;
-    }
+    λ h e. leads_on m laws (command_of c.args.line.now) h c.args.sheet.now.table _ c.respond.ensures.table e
+
+pub returns-clause-promise : goal.returns-clause-promise
+returns-clause-promise g c = promise_kept (g.C.Catalogue.meaning c.args.sheet.now.catalogue) (g.met.C.Catalogue.laws c.args.sheet.now.catalogue)
+
+pub returns-clause-consequences : goal.returns-clause-consequences
+returns-clause-consequences g c = consequences_kept (g.C.Catalogue.meaning c.args.sheet.now.catalogue) (g.met.C.Catalogue.laws c.args.sheet.now.catalogue)
