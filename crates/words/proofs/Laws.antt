@@ -1,9 +1,9 @@
 -- What holds of the two parts of a text at its first mark, and how they begin the text's pieces.
-use Rattle.std.proofs.Common.{◌≡◌, ℕ, ◌<◌, ◌≤◌, true, false, cond, eqb, ◌⊎◌, List, [], ◌∷◌, ◌++◌, length, get_or, drop, sym, refl, ap, ◌∙◌, inl, inr, arith}
+use Rattle.std.proofs.Common.{◌≡◌, ℕ, ◌<◌, ◌≤◌, true, false, cond, eqb, ◌⊎◌, List, Some, None, Option, MatchOption, Bor, [], ◌∷◌, ◌++◌, length, get_or, drop, sym, refl, ap, ◌∙◌, inl, inr, arith}
 use Rattle.std.proofs.lemmas.List.{append-nil, length-drop}
 use Rattle.std.proofs.lemmas.Bool.{eqb-true, eqb-false, cond_both}
 use Rattle.std.specs.List.{AllByRecursion}
-use Rattle.words.specs.Words.{front, back, pieces, words, after, onto}
+use Rattle.words.specs.Words.{front, back, pieces, words, words_left, after, onto}
 use Rattle.words.specs.Lines.{lines}
 
 front_back : (s : ℕ) (xs : List ℕ) → front s xs ++ back s xs ≡ xs
@@ -60,6 +60,15 @@ pub words_split : (xs : List ℕ) → words xs ≡ front 32 xs ∷ after (back 3
 words_split [] = refl
 words_split (b ∷ bs) =
     pieces_split 32 ([] ∷ []) (λ c. refl) b bs ∙ ap (λ t. front 32 (b ∷ bs) ∷ t) (behind_after (back 32 (b ∷ bs)))
+
+-- one word is taken, and the text r from its space on is left
+pub words_taken : (xs w r : List ℕ) (left : Option (Bor (List ℕ))) → w ≡ front 32 xs → r ≡ back 32 xs → MatchOption left (r ≡ []) (λ t. (0 < length r) × (t.now ≡ drop 1 r)) → words xs ≡ w ∷ words_left left
+words_taken xs w r left p q behind = words_split xs ∙ ap (λ t. t ∷ after (back 32 xs)) (sym p) ∙ ap (λ t. w ∷ t) (ap after (sym q) ∙ after_left r left behind)
+  where
+    after_left : (r : List ℕ) (left : Option (Bor (List ℕ))) → MatchOption left (r ≡ []) (λ t. (0 < length r) × (t.now ≡ drop 1 r)) → after r ≡ words_left left
+    after_left r None e = ap after e
+    after_left [] (Some t) e = absurd (omega (arith, e.0))
+    after_left (b ∷ bs) (Some t) e = ap words (sym e.1)
 
 behind_lines : (xs : List ℕ) → behind 10 [] xs ≡ lines (drop 1 xs)
 behind_lines [] = refl

@@ -1,5 +1,6 @@
 -- The two parts of a text at its first mark, and the pieces of a text between its marks; the words of a line are such pieces.
-use Rattle.std.specs.Prelude.{ℕ, cond, List, [], ◌∷◌, ◌==◌}
+use Rattle.std.specs.Prelude.{ℕ, cond, List, [], ◌∷◌, Some, None, Option, ◌==◌}
+use Rattle.std.specs.Borrow.{Bor}
 
 -- what stands before the first mark
 abbrev pub front : ℕ → List ℕ → List ℕ
@@ -29,3 +30,8 @@ words = pieces 32 ([] ∷ [])
 abbrev pub after : List ℕ → List (List ℕ)
 after [] = []
 after (b ∷ bs) = words bs
+
+-- the words of a text, and none where there is no text
+abbrev pub words_left : Option (Bor (List ℕ)) → List (List ℕ)
+words_left None = []
+words_left (Some text) = words text.now

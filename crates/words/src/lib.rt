@@ -2,24 +2,20 @@
 
 #![tactic(auto)]
 
-ghost use Rattle.std.specs.Prelude.{◌≡◌, ℕ, ◌^◌, ◌<◌, ◌≤◌, ◌&&◌, ◌⊎◌, [], ◌∷◌, ◌++◌, length, drop, if◌then◌else◌, Some, None, decimal, ◌==◌, ◌≢◌, nat_lt, slice_index};
-ghost use Rattle.std.specs.List.{AllByRecursion};
+ghost use Rattle.std.specs.Prelude.{◌≡◌, ℕ, List, MatchOption, ◌^◌, ◌<◌, ◌≤◌, ◌&&◌, ◌⊎◌, [], ◌∷◌, ◌++◌, length, drop, if◌then◌else◌, Some, None, decimal, ◌==◌, ◌≢◌, nat_lt, slice_index};
+ghost use Rattle.std.specs.List.{AllByRecursion, position};
+ghost use Rattle.std.specs.Iterator.{YieldsFirstRef, item_count};
 ghost use Rattle.words.specs.Lines.{lines};
 ghost use Rattle.words.specs.Numbers.{Inverts, led, number_of, numeral, pattern_of, worth, written};
-ghost use Rattle.words.specs.Words.{back, front};
+ghost use Rattle.words.specs.Words.{back, front, words, words_left};
 
-/// Where the first `mark` stands in a text; the text's length where none does.
-fn place(text: &[u8], mark: u8) -> usize
-    ensures within { result ≤ length text.now }
-    ensures before { (k : ℕ) → k < result → slice_index text.now k ≢ mark }
-    ensures found { result < length text.now → slice_index text.now result ≡ mark }
+use std::marker::Model;
+
+/// Where the first `mark` stands in a text, if one does.
+fn place(text: &[u8], mark: u8) -> Option<usize>
+    ensures { result ≡ position (λ b. b == mark) text.now }
 {
-    for (i, byte) in text.iter().enumerate() {
-        if *byte == mark {
-            return i;
-        }
-    }
-    text.len()
+    text.iter().position(|byte| *byte == mark)
 }
 
 /// What stands before the first `mark`, and the rest from that mark on, both as parts of the text.
@@ -30,7 +26,7 @@ pub fn cut(text: &[u8], mark: u8) -> (&[u8], &[u8])
     ensures clear { AllByRecursion (λ b. b ≢ mark) result.0.now }
     ensures stops { 0 < length result.1.now → slice_index result.1.now 0 ≡ mark }
 {
-    text.split_at(place(text, mark))
+    text.split_at(place(text, mark).unwrap_or(text.len()))
 }
 
 /// The word before the first space, and the rest from that space on.
@@ -42,13 +38,12 @@ pub fn word(line: &[u8]) -> (&[u8], &[u8])
 }
 
 /// What stands behind the first byte of a text, if it has one.
-fn behind_first(text: &[u8]) -> &[u8]
-    ensures { result.now ≡ drop 1 text.now }
+fn behind_first(text: &[u8]) -> Option<&[u8]>
+    ensures { MatchOption result (text.now ≡ []) (λ rest. (0 < length text.now) × (rest.now ≡ drop 1 text.now)) }
 {
-    if text.is_empty() {
-        text
-    } else {
-        text.split_at(1).1
+    match text {
+        [_, rest @ ..] => Some(rest),
+        [] => None,
     }
 }
 
@@ -62,24 +57,99 @@ pub fn line(text: &[u8]) -> (&[u8], &[u8])
     ensures shorter { 0 < length text.now → length result.1.now < length text.now }
 {
     let (line, rest) = cut(text, b'\n');
-    (line, behind_first(rest))
+    (line, behind_first(rest).unwrap_or(rest))
+}
+
+/// The lines of a text, without their line feeds.
+#[derive(Debug, Drop)]
+pub struct Lines<'a> {
+    text: &'a [u8],
+}
+
+impl<'a> Model for Lines<'a> {
+    ghost Value = { List (List ℕ) };
+
+    ghost view = { λ it. lines it.text.now };
+}
+
+impl<'a> Lines<'a> {
+    /// All lines of a text.
+    pub fn new(text: &'a [u8]) -> Self
+        ensures { result ≡ lines text.now }
+    {
+        Lines { text }
+    }
+}
+
+impl<'a> Iterator for Lines<'a> {
+    type Item = &'a [u8];
+
+    ghost next_gives = { YieldsFirstRef (λ left. left) };
+
+    ghost remaining = { item_count (λ left. left) };
+
+    fn next(&mut self) -> Option<&'a [u8]> {
+        if self.text.is_empty() {
+            return None;
+        }
+        let (line, text) = line(self.text);
+        self.text = text;
+        Some(line)
+    }
+}
+
+/// The words of a line, which stand one space apart.
+#[derive(Debug, Drop)]
+pub struct Words<'a> {
+    // None behind the last word: an empty text is one more word
+    text: Option<&'a [u8]>,
+}
+
+impl<'a> Model for Words<'a> {
+    ghost Value = { List (List ℕ) };
+
+    ghost view = { λ it. words_left it.text };
+}
+
+impl<'a> Words<'a> {
+    /// All words of a line.
+    pub fn new(line: &'a [u8]) -> Self
+        ensures { result ≡ words line.now }
+    {
+        Words { text: Some(line) }
+    }
+}
+
+impl<'a> Iterator for Words<'a> {
+    type Item = &'a [u8];
+
+    ghost next_gives = { YieldsFirstRef (λ left. left) };
+
+    ghost remaining = { item_count (λ left. left) };
+
+    fn next(&mut self) -> Option<&'a [u8]> {
+        let (word, rest) = word(self.text?);
+        self.text = behind_first(rest);
+        Some(word)
+    }
 }
 
 /// What a digit below the base is worth.
 fn digit(byte: u8, base: u32) -> Option<u32>
+    requires { base ≤ 16 }
     ensures { result ≡ (if nat_lt (worth byte) base then Some (worth byte) else None) }
 {
     let worth = match char::from(byte) {
-        '0'..='9' => u32::from(byte - b'0'),
-        'A'..='F' => u32::from(byte - b'A') + 10,
-        _ => 16,
+        '0'..='9' => Some(u32::from(byte - b'0')),
+        'A'..='F' => Some(u32::from(byte - b'A') + 10),
+        _ => None,
     };
-    if worth < base { Some(worth) } else { None }
+    worth.filter(|worth| *worth < base)
 }
 
 /// The number that digits of the base write.
 fn digits(word: &[u8], base: u32) -> Option<u32>
-    requires base { 0 < base }
+    requires base { (0 < base) × (base ≤ 16) }
     requires fits { base ^ length word.now ≤ 2 ^ 32 }
     ensures { result ≡ numeral base 0 word.now }
 {
@@ -100,6 +170,7 @@ fn sized_as_number(word: &[u8]) -> bool
     }
 }
 
+#[tactic(auto, using(crate::proofs::Decimals::number_law))]
 /// A number of one to five decimal digits without leading zeros.
 pub fn number(word: &[u8]) -> Option<u32>
     ensures value { result ≡ number_of word.now }
@@ -112,19 +183,13 @@ pub fn number(word: &[u8]) -> Option<u32>
     }
 }
 
-/// Whether a word has eight bytes.
-fn sized_as_pattern(word: &[u8]) -> bool
-    ensures { result ≡ (length word.now == 8) }
-{
-    word.len() == 8
-}
-
+#[tactic(auto, using(crate::proofs::Patterns::pattern_law))]
 /// A pattern of eight hexadecimal digits, in capitals.
 pub fn pattern(word: &[u8]) -> Option<u32>
     ensures value { result ≡ pattern_of word.now }
     ensures inverts { Inverts written (2 ^ 32) word.now result }
 {
-    if sized_as_pattern(word) {
+    if word.len() == 8 {
         digits(word, 16)
     } else {
         None

@@ -1,13 +1,13 @@
 -- `cut` splits a text where its first mark stands (Cuts, Laws).
 use Rattle.std.proofs.Common.{◌∙◌}
-use Rattle.words.proofs.Cuts.{cut_at}
+use Rattle.words.proofs.Cuts.{Cut, cut_at}
 use Rattle.words.proofs.Laws.{parts}
 use Rattle.words.proofs.cut.Goals as goal
 
 pub returns : goal.returns
 returns c =
-    let p = cut_at c.args.mark c.args.text.now c.place.result c.place.ensures.within c.place.ensures.before c.place.ensures.found in
-    let f = c.split_at.ensures.front ∙ p.0 in
-    let b = c.split_at.ensures.back ∙ p.1 in
-    let l = parts c.args.mark c.args.text.now _ _ f b in
-    record { front = f; back = b; whole = l.whole; clear = l.clear; stops = l.stops }
+    let at : Cut c.args.mark c.args.text.now c.unwrap_or.result = rw (c.unwrap_or.ensures, c.place.ensures) (cut_at c.args.mark c.args.text.now) in
+    let front = c.split_at.ensures.front ∙ at.before in
+    let back = c.split_at.ensures.back ∙ at.from in
+    let all = parts c.args.mark c.args.text.now _ _ front back in
+    record { front = front; back = back; whole = all.whole; clear = all.clear; stops = all.stops }

@@ -11,7 +11,7 @@ loop-byte-init c = (omega (arith, pow-zero c.args.base), refl)
 
 pub overflow_mul-number : goal.overflow_mul-number
 overflow_mul-number c =
-    omega (arith, grows c.args.base c.loop-byte.number 0 c.loop-byte.byte-index (length c.args.word.now) c.requires.base c.loop-byte.invariant.0 c.loop-byte-test.true c.requires.fits c.requires.base)
+    omega (arith, grows c.args.base c.loop-byte.number 0 c.loop-byte.byte-index (length c.args.word.now) c.requires.base.0 c.loop-byte.invariant.0 c.loop-byte-test.true c.requires.fits c.requires.base.0)
 
 pub returns-in_err-number : goal.returns-in_err-number
 returns-in_err-number c =
@@ -21,7 +21,7 @@ returns-in_err-number c =
 step : (c : goal.In_ok-number) → (c.loop-byte.number * c.args.base + c.in_ok-number.field-0 < c.args.base ^ (c.loop-byte.byte-index + 1)) × (c.loop-byte.number * c.args.base + c.in_ok-number.field-0 < 2 ^ 32)
 step c =
     let d = is_digit _ _ _ c.in_ok-number.ensures in
-    grows c.args.base c.loop-byte.number c.in_ok-number.field-0 c.loop-byte.byte-index (length c.args.word.now) c.requires.base c.loop-byte.invariant.0 c.loop-byte-test.true c.requires.fits (omega (arith, d.0, d.1))
+    grows c.args.base c.loop-byte.number c.in_ok-number.field-0 c.loop-byte.byte-index (length c.args.word.now) c.requires.base.0 c.loop-byte.invariant.0 c.loop-byte-test.true c.requires.fits (omega (arith, d.0, d.1))
 
 pub overflow_add-number : goal.overflow_add-number
 overflow_add-number c = omega (arith, step c)
