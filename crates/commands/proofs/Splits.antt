@@ -1,15 +1,10 @@
--- The parts that slice patterns name, in the words of the specs.
+-- The parts of a line that a slice pattern names, in the words of the specs.
 use Rattle.std.proofs.Common.{◌≡◌, ℕ, ◌-◌, ◌<◌, eqb, List, [], ◌∷◌, length, get_or, take, drop, Option, sym, ap, ◌∙◌, arith}
 use Rattle.std.proofs.lemmas.List.{take_all}
 use Rattle.std.proofs.lemmas.Bool.{cond-true, eq-eqb}
-use Rattle.words.specs.Words.{words, after}
+use Rattle.words.specs.Words.{words}
 use Rattle.commands.specs.Commands.{command_of, by_letter}
 use Rattle.commands.specs.declared.Command.{Command}
-
--- `[_, text @ ..]`
-pub after_part : (xs : List ℕ) → 0 < length xs → after xs ≡ words (take (length xs - 1) (drop 1 xs))
-after_part [] h = absurd (omega arith)
-after_part (b ∷ bs) h = ap words (sym (take_all (length (b ∷ bs) - 1) bs (omega arith)))
 
 -- `[letter, b' ', text @ ..]`
 pub command_at : (xs : List ℕ) (o : Option Command) → 1 < length xs → get_or xs 1 0 ≡ 32 → o ≡ by_letter (get_or xs 0 0) (words (take (length xs - 2) (drop 2 xs))) → o ≡ command_of xs

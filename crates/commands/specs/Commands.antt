@@ -1,10 +1,9 @@
 -- The command that a line stands for: a letter, a space, and words one space apart, each of the form that the letter asks for.
 use Rattle.std.specs.Prelude.{ℕ, cond, List, [], ◌∷◌, Some, None, Option, ◌==◌}
-use Rattle.std.specs.Borrow.{Bor}
 use Rattle.catalogue.specs.declared.types.Kind.{Kind}
 use Rattle.catalogue.specs.declared.types.Kind.TheVariants.{Sum, Difference, Peak}
 use Rattle.words.specs.Numbers.{number_of, pattern_of}
-use Rattle.words.specs.Words.{after, words}
+use Rattle.words.specs.Words.{words}
 use Rattle.commands.specs.declared.Command.{Command}
 use Rattle.commands.specs.declared.Command.TheVariants.{Limit, Enter, Settle, Look, Strike, Partner}
 
@@ -17,10 +16,6 @@ then (Some a) go = go a
 abbrev pub taken : {A : Type 0} → (List ℕ → Option A) → List (List ℕ) → Option (A × List (List ℕ))
 taken read [] = None
 taken read (w ∷ ws) = then (read w) (λ a. Some (a, ws))
-
--- a reading and the part of the line behind it, as the reading and the words in that part
-abbrev pub left : {A : Type 0} → A × Bor (List ℕ) → A × List (List ℕ)
-left p = (p.0, after p.1.now)
 
 -- goes on with what a reader makes of the first word, and with the words behind it
 abbrev pub word : {A B : Type 0} → (List ℕ → Option A) → List (List ℕ) → (A → List (List ℕ) → Option B) → Option B

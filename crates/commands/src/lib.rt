@@ -2,15 +2,12 @@
 
 #![tactic(auto)]
 
-ghost use Rattle.commands.specs.Commands.{by_letter, command_of, enter_of, kind_by_letter, kind_of, left, limit_of, look_of, none_left, partner_of, settle_of, strike_of, taken};
+ghost use Rattle.commands.specs.Commands.{by_letter, command_of, enter_of, kind_by_letter, kind_of, limit_of, look_of, none_left, partner_of, settle_of, strike_of};
 ghost use Rattle.commands.specs.Lines.{Reads};
-ghost use Rattle.std.specs.Option.{option_map};
-ghost use Rattle.words.specs.Numbers.{number_of, pattern_of};
-ghost use Rattle.words.specs.Words.{after, words};
-ghost use Rattle.std.specs.Prelude.{◌≡◌, [], ◌∷◌, MatchOption};
+ghost use Rattle.std.specs.Prelude.{◌≡◌};
 
 use catalogue::types::Kind;
-use words::{number, pattern, word};
+use words::{Words, number, pattern};
 
 /// A command, with its words as they were read: no number in it is known to fit its use.
 #[derive(Clone, Copy)]
@@ -45,39 +42,40 @@ pub enum Command {
 }
 
 /// The command that a line stands for, if it stands for one.
+#[tactic(auto, using(crate::proofs::Readings::read_law, crate::proofs::Splits::command_at))]
 pub fn read(line: &[u8]) -> Option<Command>
     ensures value { result ≡ command_of line.now }
     ensures reads { Reads line.now result }
 {
     match line {
-        [letter, b' ', text @ ..] => lettered(char::from(*letter), text),
+        [letter, b' ', text @ ..] => lettered(char::from(*letter), Words::new(text)),
         _ => None,
     }
 }
 
-/// The command that a letter and the words of a text stand for.
-fn lettered(letter: char, text: &[u8]) -> Option<Command>
-    ensures { result ≡ by_letter letter (words text.now) }
+/// The command that a letter and the words behind it stand for.
+fn lettered(letter: char, words: Words<'_>) -> Option<Command>
+    ensures { result ≡ by_letter letter words.entry }
 {
     match letter {
-        'L' => limit(text),
-        'E' => enter(text),
-        'S' => settle(text),
-        'R' => look(text),
-        'K' => strike(text),
-        'P' => partner(text),
+        'L' => limit(words),
+        'E' => enter(words),
+        'S' => settle(words),
+        'R' => look(words),
+        'K' => strike(words),
+        'P' => partner(words),
         _ => None,
     }
 }
 
 /// `L register low high`, without the letter.
-fn limit(text: &[u8]) -> Option<Command>
-    ensures { result ≡ limit_of (words text.now) }
+fn limit(mut words: Words<'_>) -> Option<Command>
+    ensures { result ≡ limit_of words.entry }
 {
-    let (register, rest) = first_number(text)?;
-    let (low, rest) = next_pattern(rest)?;
-    let (high, rest) = next_pattern(rest)?;
-    no_more(rest)?;
+    let register = number(words.next()?)?;
+    let low = pattern(words.next()?)?;
+    let high = pattern(words.next()?)?;
+    no_more(words)?;
     Some(Command::Limit {
         register,
         low,
@@ -86,16 +84,16 @@ fn limit(text: &[u8]) -> Option<Command>
 }
 
 /// `E place kind modes x y z`, without the letter.
-fn enter(text: &[u8]) -> Option<Command>
-    ensures { result ≡ enter_of (words text.now) }
+fn enter(mut words: Words<'_>) -> Option<Command>
+    ensures { result ≡ enter_of words.entry }
 {
-    let (place, rest) = first_number(text)?;
-    let (kind, rest) = next_kind(rest)?;
-    let (modes, rest) = next_number(rest)?;
-    let (x, rest) = next_number(rest)?;
-    let (y, rest) = next_number(rest)?;
-    let (z, rest) = next_number(rest)?;
-    no_more(rest)?;
+    let place = number(words.next()?)?;
+    let kind = kind(words.next()?)?;
+    let modes = number(words.next()?)?;
+    let x = number(words.next()?)?;
+    let y = number(words.next()?)?;
+    let z = number(words.next()?)?;
+    no_more(words)?;
     Some(Command::Enter {
         place,
         kind,
@@ -107,99 +105,50 @@ fn enter(text: &[u8]) -> Option<Command>
 }
 
 /// `S budget`, without the letter.
-fn settle(text: &[u8]) -> Option<Command>
-    ensures { result ≡ settle_of (words text.now) }
+fn settle(mut words: Words<'_>) -> Option<Command>
+    ensures { result ≡ settle_of words.entry }
 {
-    let (budget, rest) = first_number(text)?;
-    no_more(rest)?;
+    let budget = number(words.next()?)?;
+    no_more(words)?;
     Some(Command::Settle { budget })
 }
 
 /// `R register`, without the letter.
-fn look(text: &[u8]) -> Option<Command>
-    ensures { result ≡ look_of (words text.now) }
+fn look(mut words: Words<'_>) -> Option<Command>
+    ensures { result ≡ look_of words.entry }
 {
-    let (register, rest) = first_number(text)?;
-    no_more(rest)?;
+    let register = number(words.next()?)?;
+    no_more(words)?;
     Some(Command::Look { register })
 }
 
 /// `K place`, without the letter.
-fn strike(text: &[u8]) -> Option<Command>
-    ensures { result ≡ strike_of (words text.now) }
+fn strike(mut words: Words<'_>) -> Option<Command>
+    ensures { result ≡ strike_of words.entry }
 {
-    let (place, rest) = first_number(text)?;
-    no_more(rest)?;
+    let place = number(words.next()?)?;
+    no_more(words)?;
     Some(Command::Strike { place })
 }
 
 /// `P place x z`, without the letter.
-fn partner(text: &[u8]) -> Option<Command>
-    ensures { result ≡ partner_of (words text.now) }
+fn partner(mut words: Words<'_>) -> Option<Command>
+    ensures { result ≡ partner_of words.entry }
 {
-    let (place, rest) = first_number(text)?;
-    let (x, rest) = next_pattern(rest)?;
-    let (z, rest) = next_pattern(rest)?;
-    no_more(rest)?;
+    let place = number(words.next()?)?;
+    let x = pattern(words.next()?)?;
+    let z = pattern(words.next()?)?;
+    no_more(words)?;
     Some(Command::Partner { place, x, z })
 }
 
 /// None where a further word follows.
-fn no_more(rest: &[u8]) -> Option<()>
-    ensures { result ≡ none_left (after rest.now) }
+fn no_more(mut words: Words<'_>) -> Option<()>
+    ensures { result ≡ none_left words.entry }
 {
-    match next(rest) {
+    match words.next() {
         Some(_) => None,
         None => Some(()),
-    }
-}
-
-/// The number that a text begins with, and the rest from the space behind it on.
-fn first_number(text: &[u8]) -> Option<(u32, &[u8])>
-    ensures { option_map left result ≡ taken number_of (words text.now) }
-{
-    let (word, rest) = first(text);
-    Some((number(word)?, rest))
-}
-
-/// The number behind the space that the rest begins with, and the rest behind that.
-fn next_number(rest: &[u8]) -> Option<(u32, &[u8])>
-    ensures { option_map left result ≡ taken number_of (after rest.now) }
-{
-    let (word, rest) = next(rest)?;
-    Some((number(word)?, rest))
-}
-
-/// The pattern behind the space that the rest begins with, and the rest behind that.
-fn next_pattern(rest: &[u8]) -> Option<(u32, &[u8])>
-    ensures { option_map left result ≡ taken pattern_of (after rest.now) }
-{
-    let (word, rest) = next(rest)?;
-    Some((pattern(word)?, rest))
-}
-
-/// The kind behind the space that the rest begins with, and the rest behind that.
-fn next_kind(rest: &[u8]) -> Option<(Kind, &[u8])>
-    ensures { option_map left result ≡ taken kind_of (after rest.now) }
-{
-    let (word, rest) = next(rest)?;
-    Some((kind(word)?, rest))
-}
-
-/// The first word of a text, and the rest from the space behind it on.
-fn first(text: &[u8]) -> (&[u8], &[u8])
-    ensures { words text.now ≡ result.0.now ∷ after result.1.now }
-{
-    word(text)
-}
-
-/// The word behind the space that the rest begins with, and the rest behind that.
-fn next(rest: &[u8]) -> Option<(&[u8], &[u8])>
-    ensures { MatchOption result (after rest.now ≡ []) (λ p. after rest.now ≡ p.0.now ∷ after p.1.now) }
-{
-    match rest {
-        [_, text @ ..] => Some(first(text)),
-        [] => None,
     }
 }
 

@@ -170,8 +170,8 @@ fn sized_as_number(word: &[u8]) -> bool
     }
 }
 
-#[tactic(auto, using(crate::proofs::Decimals::number_law))]
 /// A number of one to five decimal digits without leading zeros.
+#[tactic(auto, using(crate::proofs::Decimals::number_law))]
 pub fn number(word: &[u8]) -> Option<u32>
     ensures value { result ≡ number_of word.now }
     ensures inverts { Inverts decimal 100_000 word.now result }
@@ -183,8 +183,8 @@ pub fn number(word: &[u8]) -> Option<u32>
     }
 }
 
-#[tactic(auto, using(crate::proofs::Patterns::pattern_law))]
 /// A pattern of eight hexadecimal digits, in capitals.
+#[tactic(auto, using(crate::proofs::Patterns::pattern_law))]
 pub fn pattern(word: &[u8]) -> Option<u32>
     ensures value { result ≡ pattern_of word.now }
     ensures inverts { Inverts written (2 ^ 32) word.now result }
