@@ -1,9 +1,9 @@
 -- The forms of words: each has a reader and a writer, of which one undoes the other.
-use Rattle.std.proofs.Common.{◌≡◌, ℕ, ◌<◌, true, eqb, List, [], ◌∷◌, Some, None, decimal, Option, sym, refl, ap, ◌∙◌, ⊎_elim, arith}
+use Rattle.std.proofs.Common.{◌≡◌, ℕ, ◌<◌, List, [], ◌∷◌, Some, None, decimal, Option, refl, ap, arith}
 use Rattle.std.proofs.lemmas.Fmt.{digits_decimal}
 use Rattle.std.proofs.lemmas.Str.Parse.{numerals_by_value, tells_digits}
-use Rattle.std.proofs.lemmas.Bool.{cond-true, cond-false, eqb-true, cases_Bool}
 use Rattle.std.proofs.lemmas.Bool.Decides.{nat_tests}
+use Rattle.std.proofs.lemmas.Option.{none-some}
 use Rattle.std.specs.Str.Parse.{AllDigits}
 use Rattle.std.specs.Char.{digit_value}
 use Rattle.catalogue.specs.declared.types.Kind.{Kind}
@@ -43,30 +43,15 @@ pattern_form = record {
   clear = λ n h. (glyph_clear _, (glyph_clear _, (glyph_clear _, (glyph_clear _, (glyph_clear _, (glyph_clear _, (glyph_clear _, (glyph_clear _, tt))))))));
 }
 
-pub none_some : {A P : Type 0} (a : A) → None ≡ Some a → P
-none_some a e = let z : ◌≡◌ {A = ℕ} 0 1 = cc in absurd (omega arith)
-
 kind_letters : (b : ℕ) (k : Kind) → kind_by_letter b ≡ Some k → kind_letter k ≡ b
-kind_letters b k e =
-    ⊎_elim
-    (λ t. same Sum t (sym (cond-true _ _ _ t) ∙ e))
-    (λ f.
-    let e = sym (cond-false _ _ _ f) ∙ e in
-    ⊎_elim
-    (λ t. same Difference t (sym (cond-true _ _ _ t) ∙ e))
-    (λ f.
-    let e = sym (cond-false _ _ _ f) ∙ e in
-    ⊎_elim (λ t. same Peak t (sym (cond-true _ _ _ t) ∙ e)) (λ f. none_some k (sym (cond-false _ _ _ f) ∙ e)) (cases_Bool (eqb b 112)))
-    (cases_Bool (eqb b 100)))
-    (cases_Bool (eqb b 115))
-  where
-    same : (j : Kind) → eqb b (kind_letter j) ≡ true → Some j ≡ Some k → kind_letter k ≡ b
-    same j t e = let q : k ≡ j = cc in ap kind_letter q ∙ sym (eqb-true b _ t)
+kind_letters b Sum e = grind (arith, nat_tests)
+kind_letters b Difference e = grind (arith, nat_tests)
+kind_letters b Peak e = grind (arith, nat_tests)
 
 kind_writes : (w : List ℕ) (k : Kind) → kind_of w ≡ Some k → Unit {0} × (kind_letter k ∷ [] ≡ w)
-kind_writes [] k e = none_some k e
+kind_writes [] k e = absurd (none-some k e)
 kind_writes (b ∷ []) k e = (tt, ap (λ l. l ∷ []) (kind_letters b k e))
-kind_writes (b ∷ c ∷ bs) k e = none_some k e
+kind_writes (b ∷ c ∷ bs) k e = absurd (none-some k e)
 
 kind_reads : (k : Kind) → kind_of (kind_letter k ∷ []) ≡ Some k
 kind_reads Sum = refl
@@ -87,11 +72,11 @@ going {A} o ws go = then {A = A × List (List ℕ)} (then o (λ a. Some (a, ws))
 
 -- what follows from the word that was read, and from how reading went on to the command c
 pub taking : {A P : Type 0} {read : List ℕ → Option A} {write : A → List ℕ} {Fit : A → Type 0} → Form A read write Fit → (ws : List (List ℕ)) (go : A → List (List ℕ) → Option Command) (c : Command) → word read ws go ≡ Some c → ((a : A) (rest : List (List ℕ)) → Fit a → write a ∷ rest ≡ ws → go a rest ≡ Some c → P) → P
-taking form [] go c e next = none_some c e
+taking form [] go c e next = absurd (none-some c e)
 taking {A} {P} {read} {write} {Fit} form (w ∷ ws) go c e next = at (read w) refl e
   where
     at : (o : Option A) → read w ≡ o → going o ws go ≡ Some c → P
-    at None q e = none_some c e
+    at None q e = absurd (none-some c e)
     at (Some a) q e = let f = form.to w a q in next a ws f.0 (ap (λ v. v ∷ ws) f.1) e
 
 -- a word that was written is read

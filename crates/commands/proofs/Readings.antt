@@ -1,13 +1,14 @@
 -- A line is read as just the command that is written so.
-use Rattle.std.proofs.Common.{◌≡◌, ℕ, true, eqb, List, [], ◌∷◌, Some, None, Option, sym, refl, ap, ◌∙◌, subst, ⊎_elim}
+use Rattle.std.proofs.Common.{◌≡◌, ℕ, eqb, cond, List, [], ◌∷◌, Some, None, Option, sym, refl, ap, ◌∙◌, subst, ⊎_elim}
 use Rattle.std.proofs.lemmas.Bool.{cond-true, cond-false, eqb-true, cases_Bool}
+use Rattle.std.proofs.lemmas.Option.{none-some}
 use Rattle.words.specs.Words.{words}
 use Rattle.commands.specs.Commands.{last, limit_of, enter_of, settle_of, look_of, strike_of, partner_of, by_letter, command_of}
 use Rattle.commands.specs.Lines.{letter_of, words_of, spaced, line_of, Sized, Reads}
 use Rattle.commands.specs.declared.Command.{Command}
 use Rattle.commands.specs.declared.Command.TheVariants.{Limit, Enter, Settle, Look, Strike, Partner}
 use Rattle.commands.proofs.Spaces.{words_back, spaced_words}
-use Rattle.commands.proofs.Forms.{number_form, pattern_form, kind_form, none_some, taking, step_back}
+use Rattle.commands.proofs.Forms.{number_form, pattern_form, kind_form, taking, step_back}
 
 -- the command has this letter and these words
 pub record Written (b : ℕ) (ws : List (List ℕ)) (c : Command) : Type 0 where
@@ -20,7 +21,7 @@ join {w} p q = ap (λ t. w ∷ t) q ∙ p
 
 ended : (b : ℕ) (ws rest : List (List ℕ)) (d c : Command) → last rest d ≡ Some c → ([] ≡ rest → Written b ws d) → Written b ws c
 ended b ws [] d c e written = let q : d ≡ c = cc in subst (Written b ws) q (written refl)
-ended b ws (w ∷ rest) d c e written = none_some c e
+ended b ws (w ∷ rest) d c e written = absurd (none-some c e)
 
 limit_written : (ws : List (List ℕ)) (c : Command) → limit_of ws ≡ Some c → Written 76 ws c
 limit_written ws c e =
@@ -61,45 +62,31 @@ partner_written ws c e =
     taking pattern_form x-ws _ c x-more (λ z z-ws z-fits z_is z-more.
     ended 80 ws z-ws (Partner n x z) c z-more (λ q. record { sized = (n-fits, x_Fits, z-fits); letter = refl; words = join n-is (join x_is (join z_is q)) }))))
 
+-- what follows from the command that one letter stands for, and from that of the other letters
+chosen : {P : Type 0} (b l : ℕ) (x y : Option Command) (c : Command) → (b ≡ l → x ≡ Some c → P) → (y ≡ Some c → P) → cond (eqb b l) x y ≡ Some c → P
+chosen b l x y c here there e =
+    ⊎_elim
+    (λ t. here (eqb-true b l t) (sym (cond-true _ _ _ t) ∙ e))
+    (λ f. there (sym (cond-false _ _ _ f) ∙ e))
+    (cases_Bool (eqb b l))
+
 letter_written : (b : ℕ) (ws : List (List ℕ)) (c : Command) → by_letter b ws ≡ Some c → Written b ws c
-letter_written b ws c e =
-    ⊎_elim
-    (λ t. is 76 t (limit_written ws c (sym (cond-true _ _ _ t) ∙ e)))
-    (λ f.
-    let e = sym (cond-false _ _ _ f) ∙ e in
-    ⊎_elim
-    (λ t. is 69 t (enter_written ws c (sym (cond-true _ _ _ t) ∙ e)))
-    (λ f.
-    let e = sym (cond-false _ _ _ f) ∙ e in
-    ⊎_elim
-    (λ t. is 83 t (settle_written ws c (sym (cond-true _ _ _ t) ∙ e)))
-    (λ f.
-    let e = sym (cond-false _ _ _ f) ∙ e in
-    ⊎_elim
-    (λ t. is 82 t (look_written ws c (sym (cond-true _ _ _ t) ∙ e)))
-    (λ f.
-    let e = sym (cond-false _ _ _ f) ∙ e in
-    ⊎_elim
-    (λ t. is 75 t (strike_written ws c (sym (cond-true _ _ _ t) ∙ e)))
-    (λ f.
-    let e = sym (cond-false _ _ _ f) ∙ e in
-    ⊎_elim
-    (λ t. is 80 t (partner_written ws c (sym (cond-true _ _ _ t) ∙ e)))
-    (λ f. none_some c (sym (cond-false _ _ _ f) ∙ e))
-    (cases_Bool (eqb b 80)))
-    (cases_Bool (eqb b 75)))
-    (cases_Bool (eqb b 82)))
-    (cases_Bool (eqb b 83)))
-    (cases_Bool (eqb b 69)))
-    (cases_Bool (eqb b 76))
+letter_written b ws c =
+    chosen b 76 _ _ c (is 76 (limit_written ws c))
+    (chosen b 69 _ _ c (is 69 (enter_written ws c))
+    (chosen b 83 _ _ c (is 83 (settle_written ws c))
+    (chosen b 82 _ _ c (is 82 (look_written ws c))
+    (chosen b 75 _ _ c (is 75 (strike_written ws c))
+    (chosen b 80 _ _ c (is 80 (partner_written ws c))
+    (λ e. absurd (none-some c e)))))))
   where
-    is : (l : ℕ) → eqb b l ≡ true → Written l ws c → Written b ws c
-    is l t w = subst (λ (x : ℕ). Written x ws c) (sym (eqb-true b l t)) w
+    is : {o : Option Command} (l : ℕ) → (o ≡ Some c → Written l ws c) → b ≡ l → o ≡ Some c → Written b ws c
+    is l written q e = subst (λ (x : ℕ). Written x ws c) (sym q) (written e)
 
 -- the command that a line is read as is written so
 command_writes : (xs : List ℕ) (c : Command) → command_of xs ≡ Some c → Sized c × (line_of c ≡ xs)
-command_writes [] c e = none_some c e
-command_writes (b ∷ []) c e = none_some c e
+command_writes [] c e = absurd (none-some c e)
+command_writes (b ∷ []) c e = absurd (none-some c e)
 command_writes (b ∷ s ∷ bs) c e =
     ⊎_elim
     (λ t.
@@ -108,7 +95,7 @@ command_writes (b ∷ s ∷ bs) c e =
     let q = w.letter in
     let r = eqb-true s 32 t in
     (w.sized, cc))
-    (λ f. none_some c (sym (cond-false _ _ _ f) ∙ e))
+    (λ f. absurd (none-some c (sym (cond-false _ _ _ f) ∙ e)))
     (cases_Bool (eqb s 32))
 
 letter_reads : (c : Command) → Sized c → by_letter (letter_of c) (words_of c) ≡ Some c
@@ -145,5 +132,5 @@ writes_command (Partner n x z) s =
     ∙ letter_reads (Partner n x z) s
 
 pub read_law : (xs : List ℕ) (o : Option Command) → o ≡ command_of xs → Reads xs o
-read_law xs None e = λ c s w. none_some c (e ∙ ap command_of (sym w) ∙ writes_command c s)
+read_law xs None e = λ c s w. absurd (none-some c (e ∙ ap command_of (sym w) ∙ writes_command c s))
 read_law xs (Some c) e = command_writes xs c (sym e)

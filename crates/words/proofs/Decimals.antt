@@ -4,9 +4,10 @@ use Rattle.std.proofs.lemmas.Bool.{cond-true, cond-false, lt-ltb, ltb-true, case
 use Rattle.std.proofs.lemmas.Bool.Decides.{nat_tests}
 use Rattle.std.proofs.lemmas.Str.Parse.{IsNumeralModel, numerals_by_value, tells_digits, digits_value_short}
 use Rattle.std.proofs.lemmas.Fmt.{decimal-digits_value, digits_value-decimal, digits_decimal, decimal_nonempty, decimal_digit, first_decimal, length-decimal-le}
+use Rattle.std.proofs.lemmas.Option.{none-some}
 use Rattle.std.specs.Str.Parse.{AllDigits, digits_value, digits_value_after}
 use Rattle.std.specs.Char.{digit_value}
-use Rattle.words.proofs.Inverses.{none_some, inverts_from}
+use Rattle.words.proofs.Inverses.{inverts_from}
 use Rattle.words.specs.Numbers.{worth, numeral, led, number_of, Inverts}
 
 own : IsNumeralModel (AllDigits 10) (digits_value 10)
@@ -29,7 +30,7 @@ numeral_digits n m (b ∷ bs) e =
     let w = worth_digit b h in
     let small : digit_value b < 10 = omega arith in
     ((small, p.0), rw w p.1))
-    (λ f. none_some m (sym (cond-false _ _ _ f) ∙ e))
+    (λ f. absurd (none-some m (sym (cond-false _ _ _ f) ∙ e)))
     (cases_Bool (ltb (worth b) 10))
 
 -- digits are read as the number that they write
@@ -63,7 +64,7 @@ number_writes w n e =
     let v = digits_value_short own w 5 d.0 short in
     let small : digits_value 10 w < 2 ^ 64 = omega arith in
     (omega (arith, d.1), rw d.1 (decimal-digits_value own w d.0 l.0 l.1 small)))
-    (λ f. none_some n (sym (cond-false _ _ _ f) ∙ e))
+    (λ f. absurd (none-some n (sym (cond-false _ _ _ f) ∙ e)))
     (cases_Bool (led w && ltb (length w) 6))
 
 decimal_led : (n : ℕ) → n < 2 ^ 64 → get_or (decimal n) 0 0 ≡ 48 → length (decimal n) ≡ 1

@@ -2,8 +2,9 @@
 use Rattle.std.proofs.Common.{◌≡◌, ℕ, ◌+◌, ◌*◌, ◌/◌, ◌%◌, ◌^◌, ◌<◌, false, eqb, ltb, List, [], ◌∷◌, map, length, Some, Option, sym, refl, ap, ◌∙◌, ⊎_elim, arith, rules}
 use Rattle.std.proofs.lemmas.Bool.{cond-true, cond-false, lt-ltb, ltb-true, ne_eqb, cases_Bool}
 use Rattle.std.proofs.lemmas.Bool.Decides.{nat_tests}
+use Rattle.std.proofs.lemmas.Option.{none-some}
 use Rattle.std.specs.Int.Digits.{AllBelowBase, number_from_digits_after}
-use Rattle.words.proofs.Inverses.{none_some, inverts_from}
+use Rattle.words.proofs.Inverses.{inverts_from}
 use Rattle.words.specs.Numbers.{worth, numeral, pattern_of, glyph_of, digits_of, written, Inverts}
 
 worth_glyph : (d : ℕ) → d < 16 → worth (glyph_of d) ≡ d
@@ -36,7 +37,7 @@ read_glyphs n m (b ∷ bs) e =
     let g = glyph_worth b h in
     let i = r.glyphs in
     record { under = (h, r.under); glyphs = cc; number = r.number })
-    (λ f. none_some m (sym (cond-false _ _ _ f) ∙ e))
+    (λ f. absurd (none-some m (sym (cond-false _ _ _ f) ∙ e)))
     (cases_Bool (ltb (worth b) 16))
 
 -- eight digits are those of the number that they write
@@ -69,18 +70,18 @@ eight_written p q r s t u v w m e =
     (d.small, ap (map glyph_of) d.digits ∙ g.glyphs)
 
 pub pattern_writes : (w : List ℕ) (n : ℕ) → pattern_of w ≡ Some n → (n < 2 ^ 32) × (written n ≡ w)
-pattern_writes [] n e = none_some n e
-pattern_writes (a ∷ []) n e = none_some n e
-pattern_writes (a ∷ b ∷ []) n e = none_some n e
-pattern_writes (a ∷ b ∷ c ∷ []) n e = none_some n e
-pattern_writes (a ∷ b ∷ c ∷ d ∷ []) n e = none_some n e
-pattern_writes (a ∷ b ∷ c ∷ d ∷ f ∷ []) n e = none_some n e
-pattern_writes (a ∷ b ∷ c ∷ d ∷ f ∷ g ∷ []) n e = none_some n e
-pattern_writes (a ∷ b ∷ c ∷ d ∷ f ∷ g ∷ h ∷ []) n e = none_some n e
+pattern_writes [] n e = absurd (none-some n e)
+pattern_writes (a ∷ []) n e = absurd (none-some n e)
+pattern_writes (a ∷ b ∷ []) n e = absurd (none-some n e)
+pattern_writes (a ∷ b ∷ c ∷ []) n e = absurd (none-some n e)
+pattern_writes (a ∷ b ∷ c ∷ d ∷ []) n e = absurd (none-some n e)
+pattern_writes (a ∷ b ∷ c ∷ d ∷ f ∷ []) n e = absurd (none-some n e)
+pattern_writes (a ∷ b ∷ c ∷ d ∷ f ∷ g ∷ []) n e = absurd (none-some n e)
+pattern_writes (a ∷ b ∷ c ∷ d ∷ f ∷ g ∷ h ∷ []) n e = absurd (none-some n e)
 pattern_writes (a ∷ b ∷ c ∷ d ∷ f ∷ g ∷ h ∷ i ∷ []) n e = eight_written a b c d f g h i n e
 pattern_writes (a ∷ b ∷ c ∷ d ∷ f ∷ g ∷ h ∷ i ∷ j ∷ bs) n e =
     let long : eqb (length (a ∷ b ∷ c ∷ d ∷ f ∷ g ∷ h ∷ i ∷ j ∷ bs)) 8 ≡ false = ne_eqb _ 8 (λ z. omega arith) in
-    none_some n (sym (cond-false _ _ _ long) ∙ e)
+    absurd (none-some n (sym (cond-false _ _ _ long) ∙ e))
 
 pub writes_pattern : (w : List ℕ) (n : ℕ) → n < 2 ^ 32 → written n ≡ w → pattern_of w ≡ Some n
 writes_pattern w n h e = ap pattern_of (sym e) ∙ glyphs_read 0 (digits_of n) (under n) ∙ ap Some (join n h)
