@@ -1,6 +1,6 @@
 -- Answers, line after line: what the loop over a script has in hand.
-use Rattle.std.proofs.Common.{◌≡◌, ℕ, true, eqb, List, [], ◌∷◌, ◌++◌, length, Some, None, Ok, Err, Option, Result, sym, refl, ap, ◌∙◌, subst, append_assoc, append-nil, arith}
-use Rattle.std.proofs.lemmas.Bool.{cond-true, eqb-true}
+use Rattle.std.proofs.Common.{◌≡◌, ℕ, List, [], ◌∷◌, ◌++◌, Some, None, Ok, Err, Option, Result, sym, refl, ap, ◌∙◌, subst, append_assoc}
+use Rattle.std.proofs.lemmas.Bool.{cond-true}
 use Rattle.catalogue.specs.Meanings.{Meaning, Laws}
 use Rattle.commands.specs.declared.Command.{Command}
 use Rattle.commands.specs.declared.Command.TheVariants.{Limit, Enter, Strike, Settle, Look, Partner}
@@ -11,22 +11,12 @@ use Rattle.promise.specs.Histories.{Call, after, passes_check}
 use Rattle.promise.specs.Promise.{Shows}
 use Rattle.promise.proofs.Promised.{promise_kept}
 use Rattle.promise.proofs.Remade.{Passed, checked_passed}
-use Rattle.answers.specs.Texts.{Reply, line_of}
+use Rattle.answers.specs.Texts.{line_of}
 use Rattle.commands.specs.Commands.{command_of}
 use Rattle.sheet.specs.declared.table.Table.{Table}
 use Rattle.sheet.specs.Rules.{new_table}
-use Rattle.words.specs.Lines.{lines}
 use Rattle.session.specs.Sessions.{Leads, Told, answers, calls_of, calls_of_all, drawn, entering, replied, table_after, table_after_all}
 
-pub answers_more : (m n : Meaning) (t u : Table) (o p l r xs all : List ℕ) (a : Reply) → m ≡ n → p ≡ o ++ line_of a → a ≡ replied m (command_of l) t → u ≡ table_after m (command_of l) t → lines xs ≡ l ∷ lines r → o ++ answers m (lines xs) t ≡ all → p ++ answers n (lines r) u ≡ all
-answers_more m n t u o p l r xs all a en ep ea eu el e =
-    let here : answers m (lines xs) t ≡ line_of (replied m (command_of l) t) ++ answers m (lines r) (table_after m (command_of l) t) = ap (λ ls. answers m ls t) el in
-    let joined = append_assoc o (line_of a) (answers m (lines r) u) in
-    cc
-
-pub answers_all : (m : Meaning) (t : Table) (o xs all : List ℕ) → true ≡ eqb (length xs) 0 → o ++ answers m (lines xs) t ≡ all → o ≡ all
-answers_all m t o [] all e i = sym (append-nil o) ∙ i
-answers_all m t o (b ∷ bs) all e i = absurd (omega (arith, eqb-true (length (b ∷ bs)) 0 (sym e)))
 
 -- ---- histories: a command leaves what its call leaves
 

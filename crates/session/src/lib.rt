@@ -24,7 +24,7 @@ use sheet::sheet::Sheet;
 use std::alloc::{AllocError, Global};
 use std::io;
 use std::io::{Read, Write};
-use words::line;
+use words::{Lines, line};
 
 /// The longest input that is read as a script.
 pub const MOST_BYTES: usize = 65_536;
@@ -100,12 +100,8 @@ fn answer_all<C: Catalogue>(
     ensures { IfOk result (λ s. string_bytes s ≡ answers (C.meaning sheet.old.catalogue) (lines script.now) sheet.old.table) }
 {
     let mut out = String::new(heap);
-    let mut rest = script;
-    while !rest.is_empty() {
-        let (next, tail) = line(rest);
-        let reply = answer(sheet, next);
-        write(&mut out, reply)?;
-        rest = tail;
+    for line in Lines::new(script) {
+        write(&mut out, answer(sheet, line))?;
     }
     Ok(out)
 }

@@ -1,13 +1,10 @@
-use Rattle.std.proofs.Common.{◌≡◌, ◌++◌, length, string_bytes}
-use Rattle.words.specs.Lines.{lines}
+-- The loop of `answer_all` keeps this: what is written, and then the answers to the lines left, are the answers to all lines.
+use Rattle.std.proofs.Common.{◌≡◌, ◌++◌, string_bytes}
 use Rattle.session.specs.Sessions.{answers}
 use Rattle.session.proofs.answer_all.Given as goal
 
-abbrev pub invariant-loop-rest : goal.invariant-loop-rest
-invariant-loop-rest g l =
+abbrev pub invariant-loop-line : goal.invariant-loop-line
+invariant-loop-line g l =
     let m = g.C.Catalogue.meaning l.sheet.catalogue in
     let n = g.C.Catalogue.meaning l.initial.sheet.catalogue in
-    string_bytes l.out ++ answers m (lines l.rest) l.sheet.table ≡ answers n (lines l.initial.rest) l.initial.sheet.table
-
-abbrev pub decreases-loop-rest : goal.decreases-loop-rest
-decreases-loop-rest g l = length l.rest
+    string_bytes l.out ++ answers m l.line-iterator l.sheet.table ≡ answers n l.initial.line-iterator l.initial.sheet.table
