@@ -13,7 +13,7 @@ use sheet::table::Outcome;
 use std::alloc::{AllocError, Global};
 use std::collections::BTreeMap;
 use std::{fmt, fs, io};
-use words::line;
+use words::{Lines, line};
 
 /// Limits as they were asked for, by pattern.
 #[derive(Clone, Copy)]
@@ -172,13 +172,8 @@ fn compare<C: Catalogue>(used: &mut Sheet<C>, new: &mut Sheet<C>) -> Compared {
 
 /// Replays a script on a sheet, and keeps what stands.
 fn replay<C: Catalogue>(used: &mut Used<C>, script: &[u8]) -> Result<(), AllocError> {
-    let mut rest = script;
-    while !rest.is_empty() {
-        let (next, tail) = line(rest);
-        if let Some(command) = read(next) {
-            used.carry_out(command)?;
-        }
-        rest = tail;
+    for command in Lines::new(script).filter_map(read) {
+        used.carry_out(command)?;
     }
     Ok(())
 }
