@@ -10,9 +10,9 @@ ghost use Rattle.binary32.specs.Binary32.{binary};
 use binary32::binary32::Binary32;
 use catalogue::arithmetic::Arithmetic;
 use catalogue::interface::Catalogue;
-use catalogue::types::{Kind, Mode, Modes};
+use catalogue::types::{Kind, Mode, Modes, Operation};
 use std::{fmt, fs};
-use words::{line, pattern, word};
+use words::{Lines, Words, pattern};
 
 /// The rank beyond the greatest reading.
 const BEYOND: i32 = 2_139_095_040;
@@ -45,7 +45,7 @@ struct Report {
     exact_differences: Tally,
     rounded_differences: Tally,
     unreadable: u32,
-    first_mismatch: Option<u32>,
+    first_mismatch: Option<usize>,
 }
 
 /// The rank of a pattern, unless it is no reading.
@@ -79,21 +79,13 @@ fn agrees(kind: Kind, mode: Mode, x: u32, y: u32, published: u32) -> bool
 {
     match (rank(x), rank(y), expected(published)) {
         (Some(x), Some(y), Some(expected)) => {
-            let span = Binary32::new().span(kind, Modes::only(mode), x, y);
-            equal(span.least, expected)
+            let operation = Operation {
+                kind,
+                modes: Modes::only(mode),
+            };
+            equal(Binary32::new().span(operation, x, y).least, expected)
         }
         _ => false,
-    }
-}
-
-/// The pattern behind a space, and the rest behind it.
-fn next_pattern(rest: &[u8]) -> Option<(u32, &[u8])> {
-    match rest {
-        [b' ', text @ ..] => {
-            let (next, rest) = word(text);
-            Some((pattern(next)?, rest))
-        }
-        _ => None,
     }
 }
 
@@ -107,32 +99,30 @@ fn kind_of(word: &[u8]) -> Option<Kind> {
 }
 
 /// Whether a line's last word says that its result is exact.
-fn exactness(rest: &[u8]) -> Option<bool> {
-    match rest {
-        b" exact" => Some(true),
-        b" rounded" => Some(false),
+fn exactness(word: &[u8]) -> Option<bool> {
+    match word {
+        b"exact" => Some(true),
+        b"rounded" => Some(false),
         _ => None,
     }
 }
 
 /// The case that a line holds.
 fn read_case(line: &[u8]) -> Option<Case> {
-    let (operation, rest) = word(line);
-    let kind = kind_of(operation)?;
-    let (x, rest) = next_pattern(rest)?;
-    let (y, rest) = next_pattern(rest)?;
-    let (nearest, rest) = next_pattern(rest)?;
-    let (up, rest) = next_pattern(rest)?;
-    let (down, rest) = next_pattern(rest)?;
-    let (toward_zero, rest) = next_pattern(rest)?;
-    let exact = exactness(rest)?;
-    Some(Case {
-        kind,
-        x,
-        y,
-        results: [nearest, up, down, toward_zero],
-        exact,
-    })
+    let mut words = Words::new(line);
+    let case = Case {
+        kind: kind_of(words.next()?)?,
+        x: pattern(words.next()?)?,
+        y: pattern(words.next()?)?,
+        results: [
+            pattern(words.next()?)?,
+            pattern(words.next()?)?,
+            pattern(words.next()?)?,
+            pattern(words.next()?)?,
+        ],
+        exact: exactness(words.next()?)?,
+    };
+    words.next().is_none().then_some(case)
 }
 
 impl Tally {
@@ -172,7 +162,7 @@ impl Report {
     }
 
     /// Takes in the line with a number.
-    fn take_in(&mut self, line: &[u8], number: u32) {
+    fn take_in(&mut self, line: &[u8], number: usize) {
         let Some(case) = read_case(line) else {
             self.unreadable = self.unreadable.saturating_add(1);
             return;
@@ -200,13 +190,8 @@ impl fmt::Display for Report {
 /// Runs every line of a text.
 fn run(text: &[u8]) -> Report {
     let mut report = Report::default();
-    let mut rest = text;
-    let mut number: u32 = 0;
-    while !rest.is_empty() {
-        let (next, tail) = line(rest);
-        number = number.saturating_add(1);
-        report.take_in(next, number);
-        rest = tail;
+    for (index, line) in Lines::new(text).enumerate() {
+        report.take_in(line, index.saturating_add(1));
     }
     report
 }
