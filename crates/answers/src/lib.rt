@@ -13,7 +13,7 @@ use std::alloc::AllocError;
 use std::fmt;
 
 /// What a command is answered.
-#[derive(Clone, Copy)]
+#[derive(Clone, Copy, Debug, PartialEq, Eq)]
 pub enum Answer {
     Done,
     Declined(Refusal),

@@ -10,7 +10,7 @@ use catalogue::types::Kind;
 use words::{Words, number, pattern};
 
 /// A command, with its words as they were read: no number in it is known to fit its use.
-#[derive(Clone, Copy)]
+#[derive(Clone, Copy, Debug, PartialEq, Eq)]
 pub enum Command {
     Limit {
         register: u32,

@@ -20,23 +20,3 @@ pub fn worked_examples() -> u32
 {
     20
 }
-
-/// The readings of binary32 by the catalogue's constants, which no clause can cite.
-pub fn binary32_readings() -> Range
-    ensures { result ≡ readings Arithmetic32 }
-{
-    Range {
-        low: <Binary32 as Catalogue>::LEAST,
-        high: <Binary32 as Catalogue>::GREATEST,
-    }
-}
-
-/// The readings of the counter by the catalogue's constants.
-pub fn counter_readings() -> Range
-    ensures { result ≡ readings (stopping 16777215) }
-{
-    Range {
-        low: <Counter as Catalogue>::LEAST,
-        high: <Counter as Catalogue>::GREATEST,
-    }
-}
