@@ -17,7 +17,6 @@ use Rattle.sheet.specs.declared.table.Table.{Table}
 use Rattle.sheet.specs.Rules.{new_table}
 use Rattle.session.specs.Sessions.{Leads, Told, answers, calls_of, calls_of_all, drawn, entering, replied, table_after, table_after_all}
 
-
 -- ---- histories: a command leaves what its call leaves
 
 entered_after : (m : Meaning) (n : ℕ) (h : List Call) (q : Result Line ℕ) → Passed q → drawn_table m n q (after m h) ≡ after m (entering n q ++ h)
