@@ -37,7 +37,7 @@ struct Tally {
     agreeing: [u32; 4],
 }
 
-/// The tallies of all classes, the lines that are no cases, and the first line that does not agree.
+/// The tallies of the four classes, each by its name, the lines that are no cases, and the first line that does not agree.
 #[derive(Clone, Copy, Default)]
 struct Report {
     exact_sums: Tally,
