@@ -1,3 +1,3 @@
--- What a script's commands are answered: read Texts from the top, with `number_of_lem`, the numbers of the refusals, and
--- `written`, the eight digits of a pattern, at hand.
+-- What a script's commands are answered: read Texts from the top, with `number_of`, the numbers of the refusals,
+-- `outcome_text`, the texts of outcomes, and `written`, the eight digits of a pattern, at hand.
 pub mod Texts

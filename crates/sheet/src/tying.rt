@@ -16,7 +16,6 @@ impl<C: Catalogue> Sheet<C> {
         ensures catalogue { self.new.catalogue ≡ self.old.catalogue }
     {
         let line = drawn.check()?;
-        self.enter(place, line)
-            .map_err(|(refusal, _line)| refusal)
+        self.enter(place, line).map_err(|(refusal, _line)| refusal)
     }
 }

@@ -37,7 +37,7 @@ struct Tally {
     agreeing: [u32; 4],
 }
 
-/// The tallies of all classes, the lines that are no cases, and the first line that does not agree.
+/// The tallies of the four classes, each by its name, the lines that are no cases, and the first line that does not agree.
 #[derive(Clone, Copy, Default)]
 struct Report {
     exact_sums: Tally,
@@ -45,7 +45,7 @@ struct Report {
     exact_differences: Tally,
     rounded_differences: Tally,
     unreadable: u32,
-    first_mismatch: Option<usize>,
+    first_mismatch: Option<u32>,
 }
 
 /// The rank of a pattern, unless it is no reading.
@@ -161,14 +161,15 @@ impl Report {
         }
     }
 
-    /// Takes in the line with a number.
-    fn take_in(&mut self, line: &[u8], number: usize) {
+    /// Takes in the next line.
+    fn take_in(&mut self, line: &[u8]) {
+        self.lines = self.lines.saturating_add(1);
         let Some(case) = read_case(line) else {
             self.unreadable = self.unreadable.saturating_add(1);
             return;
         };
         if !self.count(case) {
-            self.first_mismatch = self.first_mismatch.or(Some(number));
+            self.first_mismatch = self.first_mismatch.or(Some(self.lines));
         }
     }
 }
@@ -190,8 +191,8 @@ impl fmt::Display for Report {
 /// Runs every line of a text.
 fn run(text: &[u8]) -> Report {
     let mut report = Report::default();
-    for (index, line) in Lines::new(text).enumerate() {
-        report.take_in(line, index.saturating_add(1));
+    for line in Lines::new(text) {
+        report.take_in(line);
     }
     report
 }
