@@ -9,6 +9,8 @@ use catalogue::types::Refusal;
 /// The bit of a pattern that says that its rank is negative.
 const SIGN_BIT: u32 = 0x8000_0000;
 
+// No `TryFrom`: patterns and ranks are plain numbers, which have conversions of their own.
+
 /// The rank of a pattern, unless it is an infinity or a NaN.
 pub(crate) fn rank_of(pattern: u32) -> Result<i32, Refusal>
     ensures { numbered result ≡ rank_or_2 (Read pattern) }

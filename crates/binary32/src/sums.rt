@@ -21,6 +21,7 @@ impl Location {
     }
 
     /// The magnitude away from zero or toward it; only away from zero is there one beyond the readings.
+    // A flag and no enum: a sum's sign decides it, turned or as it is.
     fn directed(self, away: bool) -> u32
         ensures { result ≡ directed_to away self.rank self.rest }
     {
@@ -58,7 +59,7 @@ impl ExactSum {
     }
 
     /// The rank that a mode gives.
-    pub(crate) fn round(self, mode: Mode) -> i32
+    fn round(self, mode: Mode) -> i32
         ensures { result ≡ rank_by self mode }
     {
         signed(self.negative, self.magnitude(mode))
@@ -114,6 +115,18 @@ impl ExactSum {
     }
 }
 
+/// Two readings, the one of larger magnitude first. A choice of two values is faster here than a choice of two calls.
+fn ordered(x: Reading, y: Reading) -> (Reading, Reading)
+    ensures order { unsigned_abs result.1 ≤ unsigned_abs result.0 }
+    ensures sum { value result.0 +ℤ value result.1 ≡ value x +ℤ value y }
+{
+    if y.magnitude() <= x.magnitude() {
+        (x, y)
+    } else {
+        (y, x)
+    }
+}
+
 /// The exact sum of two readings, the one of larger magnitude first: it has that one's sign.
 fn sum_of(larger: Reading, smaller: Reading) -> ExactSum
     requires { unsigned_abs smaller ≤ unsigned_abs larger }
@@ -134,11 +147,8 @@ impl Add for Reading {
     ghost add_gives = { λ x y s. Locates (value x +ℤ value y) s };
 
     fn add(self, other: Reading) -> ExactSum {
-        if other.magnitude() <= self.magnitude() {
-            sum_of(self, other)
-        } else {
-            sum_of(other, self)
-        }
+        let (larger, smaller) = ordered(self, other);
+        sum_of(larger, smaller)
     }
 }
 

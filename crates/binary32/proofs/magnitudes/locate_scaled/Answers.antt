@@ -41,11 +41,11 @@ overflow_cast-kept-else-width-le-SIGNIFICAND_BITS c =
     let p : 0 < c.args.sum = omega arith in
     omega (arith, down_kept _ _ _ f p c.if-width-le-SIGNIFICAND_BITS.false c.requires)
 
-pub magnitude_of-requires-else-width-le-SIGNIFICAND_BITS : goal.magnitude_of-requires-else-width-le-SIGNIFICAND_BITS
-magnitude_of-requires-else-width-le-SIGNIFICAND_BITS c =
+pub magnitude_of-requires-else-width-le-SIGNIFICAND_BITS-clause-bits : goal.magnitude_of-requires-else-width-le-SIGNIFICAND_BITS-clause-bits
+magnitude_of-requires-else-width-le-SIGNIFICAND_BITS-clause-bits c =
     let f = wide c.args.sum c.ranges.sum.fits in
     let p : 0 < c.args.sum = omega arith in
-    record { scale = omega (arith, f.most); bits = down_kept _ _ _ f p c.if-width-le-SIGNIFICAND_BITS.false c.requires }
+    down_kept _ _ _ f p c.if-width-le-SIGNIFICAND_BITS.false c.requires
 
 pub returns-else-width-le-SIGNIFICAND_BITS : goal.returns-else-width-le-SIGNIFICAND_BITS
 returns-else-width-le-SIGNIFICAND_BITS c =
