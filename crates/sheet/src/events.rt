@@ -10,6 +10,7 @@ use catalogue::interface::Catalogue;
 use catalogue::types::Range;
 
 impl State {
+    /// Whether no step changes a table in the state.
     fn is_at_rest(self) -> bool
         ensures { result ≡ at_rest self }
     {

@@ -102,6 +102,7 @@ impl Places {
         }
     }
 
+    /// Whether no place is in the set.
     pub(crate) fn is_none(self) -> bool
         ensures { result ≡ is_none self }
     {

@@ -40,6 +40,7 @@ struct Tally {
 /// The tallies of the four classes, each by its name, the lines that are no cases, and the first line that does not agree.
 #[derive(Clone, Copy, Default)]
 struct Report {
+    lines: u32,
     exact_sums: Tally,
     rounded_sums: Tally,
     exact_differences: Tally,
