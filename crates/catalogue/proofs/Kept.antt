@@ -12,9 +12,9 @@ use Rattle.catalogue.specs.declared.types.Span.{Span}
 use Rattle.catalogue.specs.declared.types.Triple.{Triple}
 use Rattle.catalogue.specs.Narrowing.{y_for_least, y_for_greatest}
 use Rattle.catalogue.specs.Operations.{Arith, ArithLaws, span_of}
-use Rattle.catalogue.specs.Ranges.{Proper, all_three, meet, unless_empty}
+use Rattle.catalogue.specs.Ranges.{Proper, all_three, holds_all, meet, unless_empty}
 use Rattle.catalogue.specs.Search.{between, edge, keeps_x, keeps_y, narrowed_readings, origin, passes, reaches, results, rises, stays_in}
-use Rattle.catalogue.specs.Whole.{holds_all, reaches_into, span_at_high, span_at_low}
+use Rattle.catalogue.specs.Whole.{reaches_into, span_at_high, span_at_low}
 use Rattle.catalogue.proofs.Sets.{le_then, least_greatest}
 use Rattle.catalogue.proofs.Edges.{edge_at_once}
 use Rattle.catalogue.proofs.Rising.{true_le, le_true, nearest_mono, least_x, greatest_x, least_y, greatest_y}

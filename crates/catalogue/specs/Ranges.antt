@@ -1,5 +1,5 @@
 -- Ranges of ranks, and the three ranges of a line.
-use Rattle.std.specs.Prelude.{ℕ, Bool, cond, ◌&&◌, ℤ, ◌-ℤ◌, ◌≤ℤ◌, Some, None, Option, int_le, unsigned_abs}
+use Rattle.std.specs.Prelude.{ℕ, Bool, cond, ◌&&◌, ◌||◌, ℤ, ◌-ℤ◌, ◌≤ℤ◌, Some, None, Option, int_le, int_lt, unsigned_abs}
 use Rattle.std.specs.Int.{int_max, int_min}
 use Rattle.catalogue.specs.declared.types.Range.{Range}
 use Rattle.catalogue.specs.declared.types.Triple.{Triple}
@@ -15,6 +15,18 @@ holds r v = int_le r.low v && int_le v r.high
 -- a range lies within another
 abbrev pub Within : Range → Range → Type 0
 Within a b = (b.low ≤ℤ a.low) × (a.high ≤ℤ b.high)
+
+-- a range holds all ranks of another: it holds both ends
+abbrev pub holds_all : Range → Range → Bool
+holds_all a b = int_le a.low b.low && int_le b.high a.high
+
+-- b, which lies within a, is smaller than a
+abbrev pub smaller : Range → Range → Bool
+smaller b a = int_lt a.low b.low || int_lt b.high a.high
+
+-- a range that has no rank
+abbrev pub empty : Range → Bool
+empty a = int_lt a.high a.low
 
 -- a range that has a rank
 abbrev pub Proper : Range → Type 0

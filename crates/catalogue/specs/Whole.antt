@@ -7,11 +7,7 @@ use Rattle.catalogue.specs.declared.types.Span.{Span}
 use Rattle.catalogue.specs.Narrowing.{y_for_least, y_for_greatest}
 use Rattle.catalogue.specs.Operations.{Arith, span_of}
 
--- z's range holds every result
-abbrev pub holds_all : Range → Range → Bool
-holds_all z r = int_le z.low r.low && int_le r.high z.high
-
--- or, for both ends of x's range, the results with the end of y's that suits it best reach into z's range
+-- z's range holds every result (`holds_all`); or, for both ends of x's range, the results with the end of y's that suits it best reach into z's range
 abbrev pub span_at_low : Arith → Kind → Modes → Range → Range → Span
 span_at_low a k s x y = span_of a k s x.low (y_for_greatest k y)
 

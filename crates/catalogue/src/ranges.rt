@@ -1,6 +1,5 @@
 ghost use Rattle.std.specs.Prelude.{◌≡◌};
-ghost use Rattle.catalogue.specs.Ranges.{holds, meet, unless_empty};
-ghost use Rattle.catalogue.specs.Whole.{holds_all};
+ghost use Rattle.catalogue.specs.Ranges.{empty, holds, holds_all, meet, smaller, unless_empty};
 
 use crate::non_empty::NonEmpty;
 use crate::types::{Range, Span};
@@ -13,11 +12,25 @@ impl Range {
         self.low <= rank && rank <= self.high
     }
 
-    /// Whether the range holds both ends of another.
-    pub(crate) fn holds_all(self, other: Range) -> bool
+    /// Whether the range holds all ranks of another: it holds both ends.
+    pub fn holds_all(self, other: Range) -> bool
         ensures { result ≡ holds_all self other }
     {
         self.low <= other.low && other.high <= self.high
+    }
+
+    /// Whether the range, which lies within another, is smaller than that.
+    pub fn is_smaller_than(self, other: Range) -> bool
+        ensures { result ≡ smaller self other }
+    {
+        other.low < self.low || self.high < other.high
+    }
+
+    /// Whether the range has no rank.
+    pub fn is_empty(self) -> bool
+        ensures { result ≡ empty self }
+    {
+        self.high < self.low
     }
 
     /// The range, unless it is empty.

@@ -8,11 +8,11 @@ use Rattle.std.proofs.lemmas.Bool.{cases_Bool, cond-true, cond-false, cond_both,
 use Rattle.catalogue.specs.declared.types.Range.{Range}
 use Rattle.catalogue.specs.declared.types.Triple.{Triple}
 use Rattle.catalogue.specs.Meanings.{Meaning, Laws}
-use Rattle.catalogue.specs.Ranges.{Within, WithinO, Proper, meet}
+use Rattle.catalogue.specs.Ranges.{Proper, Within, WithinO, empty, meet, smaller}
 use Rattle.sheet.specs.declared.lines.Line.{Line}
 use Rattle.sheet.specs.declared.table.Table.{Table}
 use Rattle.promise.specs.Promise.{Unchanged}
-use Rattle.sheet.specs.Rules.{range_at, empty, smaller, changed, cut_table, cut, then, given, absorbed, narrowed_by}
+use Rattle.sheet.specs.Rules.{range_at, changed, cut_table, cut, then, given, absorbed, narrowed_by}
 use Rattle.promise.proofs.Cutting.{changed_at}
 use Rattle.promise.proofs.Remade.{Passes}
 use Rattle.promise.proofs.Unmoving.{unchanged, unmoved, within_self, within_then, meet_left, meet_right, some_left, covers}

@@ -1,12 +1,12 @@
 -- A limit, an enter and a strike that are carried out leave a sound table.
-use Rattle.std.proofs.Common.{◌≡◌, ℕ, ◌<◌, true, false, not, ◌≢◌, set, Some, None, sym, refl, ap, ◌∙◌, subst, ⊎_elim, arith}
-use lib.Signed.{lt_z}
+use Rattle.std.proofs.Common.{◌≡◌, ℕ, ◌<◌, true, false, ◌≢◌, set, Some, None, sym, refl, ap, ◌∙◌, subst, ⊎_elim, arith}
+use lib.Signed.{le_z}
 use Rattle.std.proofs.lemmas.List.{length-set}
-use Rattle.std.proofs.lemmas.Int.{ints}
-use Rattle.std.proofs.lemmas.Bool.{cases_eq, both_ways, cond_both, and_parts, not-true}
+use Rattle.std.proofs.lemmas.Bool.{cases_eq, both_ways, cond_both, and_parts}
+use Rattle.catalogue.proofs.Rising.{le_true}
 use Rattle.catalogue.specs.declared.types.Range.{Range}
 use Rattle.catalogue.specs.Meanings.{Meaning, all_readings}
-use Rattle.catalogue.specs.Ranges.{Within, Proper, meet}
+use Rattle.catalogue.specs.Ranges.{Proper, Within, empty, holds_all, meet}
 use Rattle.sheet.specs.declared.lines.Line.{Line}
 use Rattle.sheet.specs.declared.table.Event.TheVariants.{Tightened, Loosened, Entered, Struck}
 use Rattle.sheet.specs.declared.table.State.{State}
@@ -16,7 +16,7 @@ use Rattle.sheet.specs.Calls.{is_void}
 use Rattle.promise.specs.Histories.{passes_check}
 use Rattle.sheet.specs.Places.{has, with_place}
 use Rattle.promise.specs.Promise.{Ranges}
-use Rattle.sheet.specs.Rules.{no_range, range_at, limits_at, empty, cut_table, cut_to_limits, or_void, with_limits, inside, limited, placed, entered, removed, struck, reacted, made_due, returned}
+use Rattle.sheet.specs.Rules.{no_range, range_at, limits_at, cut_table, cut_to_limits, or_void, with_limits, limited, placed, entered, removed, struck, reacted, made_due, returned}
 use Rattle.promise.proofs.Cutting.{shape_same, cut_live, cut_none, cut_within, cut_limits}
 use Rattle.sheet.proofs.PlaceSets.{with_here, with_other}
 use Rattle.promise.proofs.Placing.{placed_shape, removed_shape, removed_limits}
@@ -26,12 +26,10 @@ use Rattle.promise.proofs.Sounds.{Drawn, Fixed, Stands, Shape, Limited, Live, So
 use Rattle.promise.proofs.Stepping.{limited_same}
 use Rattle.promise.proofs.Unmoving.{within_then}
 
-inside_true : (b a : Range) → inside b a ≡ true → Within b a
+inside_true : (b a : Range) → holds_all a b ≡ true → Within b a
 inside_true b a h =
-    let p = and_parts (not (lt_z b.low a.low)) (not (lt_z a.high b.high)) h in
-    let x = not-true (lt_z b.low a.low) p.0 in
-    let y = not-true (lt_z a.high b.high) p.1 in
-    (grind (arith, ints), grind (arith, ints))
+    let p = and_parts (le_z a.low b.low) (le_z b.high a.high) h in
+    (le_true _ _ p.0, le_true _ _ p.1)
 
 -- ---- limits: those of register r become b
 module _ (m : Meaning) (old new : Ranges) (at : Drawn) (t : Table) (sound : Sound m old at t) (r : ℕ) (b : Range) (lt : r < 32) (proper : Proper b) (readings : Within b (all_readings m)) (own : new r ≡ b) (off : (q : ℕ) → (q ≡ r → ⊥) → new q ≡ old q) where
@@ -118,7 +116,7 @@ module _ (m : Meaning) (old new : Ranges) (at : Drawn) (t : Table) (sound : Soun
   loose Void = returned_sound m new at reset reset_limited reset_shape
 
   pub limited_sound : Sound m new at (limited m r b t)
-  limited_sound = cond_both (inside b (limits_at t r)) (Tightened r) Loosened (λ e. Sound m new at (reacted m t.state e reset))
+  limited_sound = cond_both (holds_all (limits_at t r) b) (Tightened r) Loosened (λ e. Sound m new at (reacted m t.state e reset))
       (λ h. tight (subst (Within b) (sound.limited.same r lt) (inside_true b (limits_at t r) h)) t.state refl)
       (λ _. loose t.state)
 

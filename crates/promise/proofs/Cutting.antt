@@ -4,14 +4,14 @@ use Rattle.std.proofs.lemmas.List.{get_or-set_same, get_or-set_other, length-set
 use Rattle.std.proofs.lemmas.Bool.{cases_Bool, both_ways, cond-true, cond-false, cond_both, eqb-false, eq-eqb, and_parts, or_cases, or_left, or_right, or_parts}
 use Rattle.catalogue.specs.declared.types.Range.{Range}
 use Rattle.catalogue.specs.Meanings.{Meaning}
-use Rattle.catalogue.specs.Ranges.{Within, Proper, meet}
+use Rattle.catalogue.specs.Ranges.{Proper, Within, empty, meet, smaller}
 use Rattle.sheet.specs.declared.lines.Line.{Line}
 use Rattle.sheet.specs.declared.table.Table.{Table}
 use Rattle.promise.proofs.Index.{names}
 use Rattle.sheet.specs.Lines.{row_of}
 use Rattle.sheet.specs.Places.{has, none}
 use Rattle.promise.specs.Promise.{Ranges}
-use Rattle.sheet.specs.Rules.{no_range, no_row, range_at, row_at, naming_at, empty, smaller, changed, cut_table}
+use Rattle.sheet.specs.Rules.{no_range, no_row, range_at, row_at, naming_at, changed, cut_table}
 use Rattle.promise.proofs.Indexes.{LinesStay, index_same}
 use Rattle.sheet.proofs.PlaceSets.{union_has}
 use Rattle.promise.proofs.Setting.{at_each}

@@ -15,9 +15,9 @@ use Rattle.sheet.specs.declared.table.Table.{Table}
 use Rattle.sheet.specs.Lines.{row_of, checked, drawn_of}
 use Rattle.sheet.specs.Places.{has, none, with_place, without, lowest}
 use Rattle.promise.proofs.Index.{names, Indexed}
-use Rattle.sheet.specs.Rules.{no_row, row_at, naming_at, empty, smaller, changed, cut_table, cut, or_void, then, absorbed, narrowed_by, step_line, step_at, reacted, named, placed, settled, new_table, table_of, range_at, limits_at, at_rest, after_steps, given, with_due, with_limits, limited, limit_event, entered}
+use Rattle.sheet.specs.Rules.{no_row, row_at, naming_at, changed, cut_table, cut, or_void, then, absorbed, narrowed_by, step_line, step_at, reacted, named, placed, settled, new_table, table_of, range_at, limits_at, at_rest, after_steps, given, with_due, with_limits, limited, limit_event, entered}
 use Rattle.promise.proofs.Setting.{at_each}
-use Rattle.catalogue.specs.Ranges.{meet}
+use Rattle.catalogue.specs.Ranges.{empty, meet, smaller}
 use Rattle.sheet.proofs.PlaceSets.{with_here, with_other, with_has, none_has}
 
 -- ---- tables with the same lines

@@ -4,7 +4,7 @@ use Rattle.std.proofs.lemmas.Bool.{both_ways, cases_eq, cond_both}
 use Rattle.catalogue.specs.declared.types.Range.{Range}
 use Rattle.catalogue.specs.declared.types.Triple.{Triple}
 use Rattle.catalogue.specs.Meanings.{Meaning, Laws}
-use Rattle.catalogue.specs.Ranges.{Within, WithinO, meet}
+use Rattle.catalogue.specs.Ranges.{Within, WithinO, empty, meet}
 use Rattle.sheet.specs.declared.lines.Line.{Line}
 use Rattle.sheet.specs.declared.table.Event.TheVariants.{Step}
 use Rattle.sheet.specs.declared.table.State.{State}
@@ -15,7 +15,7 @@ use Rattle.promise.proofs.Index.{names}
 use Rattle.sheet.specs.Lines.{row_of, drawn_of, checked}
 use Rattle.sheet.specs.Places.{has, without, lowest}
 use Rattle.promise.specs.Promise.{Ranges, given_to}
-use Rattle.sheet.specs.Rules.{no_range, range_at, row_at, at_rest, empty, cut_table, cut, then, given, absorbed, narrowed_by, or_void, step_line, step_at, reacted, settled, after_steps, with_due}
+use Rattle.sheet.specs.Rules.{no_range, range_at, row_at, at_rest, cut_table, cut, then, given, absorbed, narrowed_by, or_void, step_line, step_at, reacted, settled, after_steps, with_due}
 use Rattle.promise.proofs.Cutting.{shape_same, cut_live, cut_none, cut_self, cut_limits, names_x, names_y, names_z}
 use Rattle.sheet.proofs.PlaceSets.{without_here, without_other, lowest_in}
 use Rattle.promise.proofs.Remade.{Passes, passing, remade}

@@ -7,9 +7,8 @@ use Rattle.std.proofs.lemmas.Bool.{cases_Bool, or_parts, eqb-true, eq-eqb}
 use Rattle.catalogue.specs.declared.types.Range.{Range}
 use Rattle.catalogue.specs.declared.types.Triple.{Triple}
 use Rattle.catalogue.specs.Meanings.{Meaning, Laws}
-use Rattle.catalogue.specs.Ranges.{Within, Within3, WithinO, Proper, meet}
+use Rattle.catalogue.specs.Ranges.{Proper, Within, Within3, WithinO, empty, meet, smaller}
 use Rattle.sheet.specs.declared.lines.Line.{Line}
-use Rattle.sheet.specs.Rules.{empty, smaller}
 use Rattle.promise.specs.Promise.{Ranges, given_to, common_if, gets, Unchanged}
 use Rattle.promise.proofs.Remade.{Passes}
 

@@ -1,9 +1,9 @@
 -- The rules of a table: what each event, and each step, makes of it.
-use Rattle.std.specs.Prelude.{ℕ, zero, suc, ◌+◌, Bool, true, false, cond, not, ◌&&◌, ◌||◌, List, replicate, pos, Some, None, Ok, Err, Option, Result, int_lt, slice_index_or, slice_set}
+use Rattle.std.specs.Prelude.{ℕ, zero, suc, ◌+◌, Bool, true, false, cond, List, replicate, pos, Some, None, Ok, Err, Option, Result, slice_index_or, slice_set}
 use Rattle.catalogue.specs.declared.types.Range.{Range}
 use Rattle.catalogue.specs.declared.types.Triple.{Triple}
 use Rattle.catalogue.specs.Meanings.{Meaning, all_readings}
-use Rattle.catalogue.specs.Ranges.{meet}
+use Rattle.catalogue.specs.Ranges.{empty, holds_all, meet, smaller}
 use Rattle.sheet.specs.declared.lines.Line.{Line}
 use Rattle.sheet.specs.declared.places.Places.{Places}
 use Rattle.sheet.specs.declared.table.Empty.{Empty}
@@ -74,13 +74,6 @@ abbrev pub returned : Table → Table
 returned t = rested (with_due t.standing (with_ranges t.limits t))
 
 -- ---- cuts
-
-abbrev pub empty : Range → Bool
-empty a = int_lt a.high a.low
-
--- b, which lies within a, is smaller than a
-abbrev pub smaller : Range → Range → Bool
-smaller b a = int_lt a.low b.low || int_lt b.high a.high
 
 -- register r's range becomes another, and the lines that name r become due
 abbrev pub changed : ℕ → Range → Table → Table
@@ -166,12 +159,8 @@ reacted m Open Step t = step m t
 
 -- ---- limit
 
--- b lies inside a
-abbrev pub inside : Range → Range → Bool
-inside b a = not (int_lt b.low a.low) && not (int_lt a.high b.high)
-
 abbrev pub limit_event : ℕ → Range → Table → Event
-limit_event r b t = cond (inside b (limits_at t r)) (Tightened r) Loosened
+limit_event r b t = cond (holds_all (limits_at t r) b) (Tightened r) Loosened
 
 -- register r's limits are replaced, and the table reacts
 abbrev pub limited : Meaning → ℕ → Range → Table → Table

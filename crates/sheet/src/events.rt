@@ -4,7 +4,6 @@ ghost use Rattle.sheet.specs.Rules.{at_rest, entered, limit_event, limited, name
 use crate::lines::{CheckedLine, Line};
 use crate::places::Place;
 use crate::registers::Register;
-use crate::rules::lies_inside;
 use crate::table::{Event, Row, State, Table};
 use catalogue::interface::Catalogue;
 use catalogue::types::Range;
@@ -38,7 +37,7 @@ impl Table {
     fn limit_event(&self, register: Register, limits: Range) -> Event
         ensures { result ≡ limit_event register limits self.now }
     {
-        if lies_inside(limits, self.limits[register.index()]) {
+        if self.limits[register.index()].holds_all(limits) {
             Event::Tightened(register)
         } else {
             Event::Loosened

@@ -1,6 +1,6 @@
 ghost use Rattle.std.specs.Prelude.{◌≡◌, Some};
 ghost use Rattle.catalogue.specs.Ranges.{meet};
-ghost use Rattle.sheet.specs.Rules.{absorbed, changed, cut as Cut, cut_to_limits, empty, given as Given, inside, left, made_due, narrowed_by, or_void, rested, returned, smaller, step as Stepped, voided};
+ghost use Rattle.sheet.specs.Rules.{absorbed, changed, cut as Cut, cut_to_limits, given as Given, left, made_due, narrowed_by, or_void, rested, returned, step as Stepped, voided};
 
 use crate::lines::{CheckedLine, Line};
 use crate::places::{Place, Places};
@@ -8,27 +8,6 @@ use crate::registers::Register;
 use crate::table::{Empty, State, Table};
 use catalogue::interface::Catalogue;
 use catalogue::types::{Range, Triple};
-
-/// Whether a range has no rank.
-fn is_empty(a: Range) -> bool
-    ensures { result ≡ empty a }
-{
-    a.high < a.low
-}
-
-/// Whether `b`, which lies within `a`, is smaller than `a`.
-fn is_smaller(b: Range, a: Range) -> bool
-    ensures { result ≡ smaller b a }
-{
-    a.low < b.low || b.high < a.high
-}
-
-/// Whether `b` lies inside `a`.
-pub(crate) fn lies_inside(b: Range, a: Range) -> bool
-    ensures { result ≡ inside b a }
-{
-    !(b.low < a.low) && !(a.high < b.high)
-}
 
 impl Table {
     /// Open if a line is due, settled if none is.
@@ -77,10 +56,10 @@ impl Table {
     {
         let old = self.ranges[register.index()];
         let new = old.meet(by);
-        if is_empty(new) {
+        if new.is_empty() {
             return Err(Empty);
         }
-        if is_smaller(new, old) {
+        if new.is_smaller_than(old) {
             self.change(register, new);
         }
         Ok(())
