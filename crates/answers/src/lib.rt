@@ -16,6 +16,7 @@ use std::fmt;
 #[derive(Clone, Copy, Debug, PartialEq, Eq)]
 pub enum Answer {
     Done,
+    /// A refusal is an answer, and no failure.
     Declined(Refusal),
     Stepped { outcome: Outcome, steps: u32 },
     Shown(Shown),
@@ -54,7 +55,8 @@ fn state(settled: bool) -> &'static str
     if settled { "settled" } else { "open" }
 }
 
-/// A pattern, which is shown as eight hexadecimal digits in capitals.
+/// A pattern, which is shown as eight hexadecimal digits in capitals. A type of its own: the check knows no range of a
+/// number that stands in a struct inside an enum's case, as `Answer::Shown` has it.
 #[derive(Clone, Copy)]
 struct Pattern(u32);
 

@@ -85,6 +85,7 @@ impl Question {
         let mut low = 0;
         let mut high = n;
         let mut step = 1;
+        // No index is counted: two bounds close in on each other.
         while high - low > 1 {
             let by = step.min((high - low) / 2);
             if self.passes_at(a, from, low + by) {

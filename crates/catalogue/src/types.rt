@@ -15,7 +15,8 @@ pub enum Mode {
     TowardZero,
 }
 
-/// A set of rounding modes: a sum of 1 (nearest), 2 (up), 4 (down) and 8 (toward zero).
+/// A set of rounding modes: a sum of 1 (nearest), 2 (up), 4 (down) and 8 (toward zero). Any number is one, as calls are
+/// answered for every argument.
 #[derive(Clone, Copy, Debug, PartialEq, Eq)]
 pub struct Modes {
     pub bits: u8,
@@ -43,7 +44,8 @@ pub struct Triple {
     pub z: Range,
 }
 
-/// The least and the greatest result of an operation among the modes of a set.
+/// The least and the greatest result of an operation among the modes of a set. No `Range`: a rank between them need not
+/// be a result.
 #[derive(Clone, Copy, Debug, PartialEq, Eq)]
 pub struct Span {
     pub least: i32,
@@ -64,7 +66,8 @@ pub enum Asks {
     AtMost,
 }
 
-/// A question about one operand while the other is held at `other`.
+/// A question about one operand while the other is held at `other`. A value and no closure, since the definitions speak
+/// of questions too.
 #[derive(Clone, Copy, Debug, PartialEq, Eq)]
 pub struct Question {
     pub operation: Operation,

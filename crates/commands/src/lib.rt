@@ -146,10 +146,7 @@ fn partner(mut words: Words<'_>) -> Option<Command>
 fn no_more(mut words: Words<'_>) -> Option<()>
     ensures { result ≡ none_left words.entry }
 {
-    match words.next() {
-        Some(_) => None,
-        None => Some(()),
-    }
+    words.next().is_none().then_some(())
 }
 
 /// The kind that a word of one letter stands for.

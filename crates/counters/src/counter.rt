@@ -55,6 +55,8 @@ impl Catalogue for Counter {
         SCALE.pattern(rank)
     }
 
+    // Here and below one call of the one generic function: an impl for every arithmetic would bar catalogues that are
+    // built on other catalogues.
     fn narrow(&self, operation: Operation, given: Triple) -> Option<Triple> {
         narrow(self, operation, given)
     }

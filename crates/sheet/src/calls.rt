@@ -95,6 +95,7 @@ impl<C: Catalogue> Sheet<C> {
         ensures table { self.new.table ≡ enter_table (C.meaning self.old.catalogue) place line self.old.table }
         ensures catalogue { self.new.catalogue ≡ self.old.catalogue }
     {
+        // No `map_err` with `?`: the line goes back, or on to be entered.
         let place = match Place::try_from(place) {
             Ok(place) => place,
             Err(refusal) => return Err((refusal, line)),

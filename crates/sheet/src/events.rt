@@ -80,7 +80,8 @@ impl Table {
         self.react(catalogue, Event::Entered(place));
     }
 
-    /// Notes that the line at a place names a register no longer.
+    /// Notes that the line at a place names a register no longer. `name` beside it differs in the step alone, but a step
+    /// that is passed in would need a contract longer than both.
     fn unname(&mut self, place: Place, register: Register)
         ensures { self.new ≡ with_naming (unnamed place register self.old.naming) self.old }
     {

@@ -3,7 +3,8 @@ ghost use Rattle.std.specs.Prelude.{◌<◌};
 use crate::registers::Register;
 use catalogue::types::Operation;
 
-/// A line as it was drawn: any kind, mode set and registers.
+/// A line as it was drawn: any kind, mode set and registers. Numbers, since what was drawn may name none; the check says
+/// which is wrong.
 #[derive(Clone, Debug, PartialEq, Eq, Drop)]
 pub struct DrawnLine {
     pub kind: u32,

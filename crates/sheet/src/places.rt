@@ -48,7 +48,7 @@ impl TryFrom<u32> for Place {
     }
 }
 
-/// A set of places: place n is in it if bit n is set.
+/// A set of places: place n is in it if bit n is set. So a step finds and marks lines without a scan and without a heap.
 #[derive(Clone, Copy, Debug, PartialEq, Eq)]
 pub struct Places {
     pub(crate) bits: u64,

@@ -30,7 +30,7 @@ pub struct Table {
     pub(crate) rows: [Row; 64],
     /// The places where a line stands.
     pub(crate) standing: Places,
-    /// For each register, the places of the standing lines that name it.
+    /// For each register, the places of the standing lines that name it; beside the ranges, which are copied without it.
     pub(crate) naming: [Places; 32],
     /// The places of the lines that are due.
     pub(crate) due: Places,

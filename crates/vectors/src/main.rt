@@ -3,7 +3,6 @@
 #![tactic(auto)]
 
 ghost use Rattle.std.specs.Prelude.{◌≡◌};
-ghost use Rattle.catalogue.specs.Operations.{equal as Equal};
 ghost use Rattle.vectors.specs.Vectors.{agreement, expected as Expected};
 ghost use Rattle.binary32.specs.Binary32.{binary};
 
@@ -67,13 +66,6 @@ fn expected(published: u32) -> Option<i32>
     }
 }
 
-/// Whether two ranks are equal. A function, since the proof of `agrees` doesn't close with `==` in its place.
-fn equal(v: i32, w: i32) -> bool
-    ensures { result ≡ Equal v w }
-{
-    v == w
-}
-
 /// Whether the catalogue gives a published result under one mode.
 fn agrees(kind: Kind, mode: Mode, x: u32, y: u32, published: u32) -> bool
     ensures { result ≡ agreement kind mode x y published }
@@ -84,7 +76,7 @@ fn agrees(kind: Kind, mode: Mode, x: u32, y: u32, published: u32) -> bool
                 kind,
                 modes: Modes::only(mode),
             };
-            equal(Binary32::new().span(operation, x, y).least, expected)
+            Binary32::new().span(operation, x, y).least == expected
         }
         _ => false,
     }
@@ -126,17 +118,24 @@ fn read_case(line: &[u8]) -> Option<Case> {
     words.next().is_none().then_some(case)
 }
 
-impl Tally {
-    /// Counts a case, and says whether it agrees under every mode.
-    fn count(&mut self, case: Case) -> bool {
-        self.cases = self.cases.saturating_add(1);
-        let mut everywhere = true;
-        for ((mode, result), agreeing) in MODES.iter().zip(&case.results).zip(&mut self.agreeing) {
-            let here = agrees(case.kind, *mode, case.x, case.y, *result);
-            *agreeing = agreeing.saturating_add(u32::from(here));
-            everywhere = everywhere && here;
+impl Case {
+    /// Under which modes the catalogue gives the published result.
+    fn agreement(&self) -> [bool; 4] {
+        let mut agreement = [false; 4];
+        for ((mode, result), here) in MODES.iter().zip(&self.results).zip(&mut agreement) {
+            *here = agrees(self.kind, *mode, self.x, self.y, *result);
         }
-        everywhere
+        agreement
+    }
+}
+
+impl Tally {
+    /// Counts a case.
+    fn count(&mut self, agreement: [bool; 4]) {
+        self.cases = self.cases.saturating_add(1);
+        for (agreeing, here) in self.agreeing.iter_mut().zip(agreement) {
+            *agreeing = agreeing.saturating_add(u32::from(here));
+        }
     }
 }
 
@@ -152,13 +151,13 @@ impl fmt::Display for Tally {
 }
 
 impl Report {
-    /// Counts a case in its class, and says whether it agrees under every mode.
-    fn count(&mut self, case: Case) -> bool {
+    /// The tally of a case's class.
+    fn tally(&mut self, case: Case) -> &mut Tally {
         match (case.kind, case.exact) {
-            (Kind::Sum, true) => self.exact_sums.count(case),
-            (Kind::Sum, false) => self.rounded_sums.count(case),
-            (_, true) => self.exact_differences.count(case),
-            (_, false) => self.rounded_differences.count(case),
+            (Kind::Sum, true) => &mut self.exact_sums,
+            (Kind::Sum, false) => &mut self.rounded_sums,
+            (_, true) => &mut self.exact_differences,
+            (_, false) => &mut self.rounded_differences,
         }
     }
 
@@ -169,7 +168,9 @@ impl Report {
             self.unreadable = self.unreadable.saturating_add(1);
             return;
         };
-        if !self.count(case) {
+        let agreement = case.agreement();
+        self.tally(case).count(agreement);
+        if agreement.contains(&false) {
             self.first_mismatch = self.first_mismatch.or(Some(self.lines));
         }
     }
