@@ -154,3 +154,20 @@ pub fn serve<R: Read + Drop, W: Write>(heap: Global, input: R, output: &mut W) -
     let answers = answer_input(heap, bytes.as_slice())?;
     output.write_all(answers.as_bytes())
 }
+
+#[cfg(test)]
+mod tests {
+    use super::*;
+
+    #[test]
+    fn a_script_is_read_and_its_answers_are_written(rt: HostRuntime) {
+        let script = b"C\nL 0 00000001 00000002\nR 0\n";
+        let mut written = Vec::new(rt.alloc());
+        let served = serve(rt.alloc(), script.as_slice(), &mut written);
+        assert!(rt; served.is_ok(), "no memory, or no reading or writing");
+        assert_eq!(rt;
+            written.as_slice(),
+            b"ok\n00000001 00000002 settled\n".as_slice()
+        );
+    }
+}
