@@ -1,8 +1,8 @@
 #![tactic(auto)]
 
 pub mod binary32;
-pub mod magnitudes;
-pub mod patterns;
-pub mod readings;
-pub mod sums;
-pub mod types;
+mod magnitudes;
+mod patterns;
+mod readings;
+mod sums;
+mod types;

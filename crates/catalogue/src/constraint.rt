@@ -1,5 +1,5 @@
 use crate::arithmetic::Arithmetic;
-use crate::types::{Operation, Span};
+use crate::types::Operation;
 
 /// An operation of a board's arithmetic, which ties x and y to z.
 #[derive(Drop)]

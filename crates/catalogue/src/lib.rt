@@ -3,12 +3,12 @@
 pub mod arithmetic;
 mod constraint;
 pub mod interface;
-pub mod modes;
+mod modes;
 pub mod narrowing;
 pub mod non_empty;
 mod numbers;
 pub mod partners;
-pub mod ranges;
+mod ranges;
 mod refusals;
-pub mod search;
+mod search;
 pub mod types;

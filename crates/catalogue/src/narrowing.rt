@@ -21,18 +21,19 @@ impl Kind {
         }
     }
 
-    /// The rank of y's range that makes results least.
+    /// The rank of y's range that makes results least. `y_for_greatest` beside it is the other end: two short functions
+    /// say which is meant where one with a flag would not.
     fn y_for_least(self, y: NonEmpty) -> i32
         ensures { result ≡ y_for_least self y }
     {
-        if self.falls_in_y() { y.high() } else { y.low() }
+        y.end(self.falls_in_y())
     }
 
     /// The rank of y's range that makes results greatest.
     fn y_for_greatest(self, y: NonEmpty) -> i32
         ensures { result ≡ y_for_greatest self y }
     {
-        if self.falls_in_y() { y.low() } else { y.high() }
+        y.end(!self.falls_in_y())
     }
 }
 
@@ -46,7 +47,7 @@ impl Span {
 }
 
 impl Question {
-    /// Whether the greatest result reaches z's low.
+    /// The question whether the greatest result reaches z's low.
     fn reaches(operation: Operation, operand: Operand, other: i32, z: Range) -> Question
         ensures { result ≡ reaches operation.kind operation.modes operand other z }
     {
@@ -59,7 +60,7 @@ impl Question {
         }
     }
 
-    /// Whether the least result does not pass z's high.
+    /// The question whether the least result does not pass z's high.
     fn stays_in(operation: Operation, operand: Operand, other: i32, z: Range) -> Question
         ensures { result ≡ stays_in operation.kind operation.modes operand other z }
     {
@@ -118,7 +119,8 @@ impl<A: Arithmetic> Constraint<'_, A> {
         }
     }
 
-    /// The results for x's low end and the end of y's range that suits it best.
+    /// The results for x's low end and the end of y's range that suits it best. `span_at_high` beside it is its mirror, with
+    /// both ends exchanged.
     fn span_at_low(&self, x: NonEmpty, y: NonEmpty) -> Span
         ensures { result ≡ span_at_low (A.arith self.now.arithmetic.now) self.now.operation.kind self.now.operation.modes x y }
     {

@@ -5,7 +5,7 @@ use crate::types::Range;
 use std::marker::Model;
 
 /// A range that has a rank: its low is not above its high. Clauses see the range itself.
-#[derive(Clone, Copy)]
+#[derive(Clone, Copy, Debug, PartialEq, Eq)]
 pub struct NonEmpty {
     pub(crate) bounds: Range,
 }

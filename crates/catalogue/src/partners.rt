@@ -57,6 +57,8 @@ impl<A: Arithmetic> Constraint<'_, A> {
         ensures { result ≡ partner_in (A.arith self.now.arithmetic.now) self.now.operation.kind self.now.operation.modes x z y }
     {
         let y = y?;
+        // All four, though the first may do: what a closure for `or_else` answers is not known here, where the arithmetic is
+        // any, and the proof did not close.
         let nearest = self.partner_by(x, z, y, Mode::Nearest);
         let up = self.partner_by(x, z, y, Mode::Up);
         let down = self.partner_by(x, z, y, Mode::Down);

@@ -1,4 +1,4 @@
 #![tactic(auto)]
 
 pub mod counter;
-pub mod stopping;
+mod stopping;

@@ -69,8 +69,7 @@ impl<C: Catalogue> Sheet<C> {
     fn limits(&self, low: u32, high: u32) -> Result<Range, Refusal>
         ensures { numbered result ≡ limits_read ((C.meaning self.now.catalogue).reads low) ((C.meaning self.now.catalogue).reads high) }
     {
-        let low = self.catalogue.rank(low)?;
-        let high = self.catalogue.rank(high)?;
+        let (low, high) = self.ranks(low, high)?;
         if high < low {
             return Err(Refusal::LowAboveHigh);
         }

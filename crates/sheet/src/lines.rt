@@ -15,7 +15,7 @@ pub struct DrawnLine {
 }
 
 /// What a line says: its operation, and the three registers that it ties.
-#[derive(Clone, Copy)]
+#[derive(Clone, Copy, Debug, PartialEq, Eq)]
 pub struct Line {
     pub operation: Operation,
     pub x: Register,
@@ -24,7 +24,7 @@ pub struct Line {
 }
 
 /// A line that passed the check. Only such a line can be entered, and entering uses it up.
-#[derive(Drop)]
+#[derive(Debug, Drop)]
 pub struct CheckedLine {
     pub(crate) line: Line,
     ghost some_mode: { 0 < line.operation.modes.bits },

@@ -3,7 +3,8 @@ ghost use Rattle.std.specs.Prelude.{◌≡◌, ◌<◌};
 use catalogue::types::Refusal;
 use std::marker::Model;
 
-/// One of a sheet's 64 places for lines.
+/// One of a sheet's 64 places for lines. A type apart from `Register`: no place is ever taken for one, and it is refused
+/// by another number.
 #[derive(Clone, Copy, Debug, PartialEq, Eq)]
 pub struct Place {
     number: u8,

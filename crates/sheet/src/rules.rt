@@ -31,6 +31,16 @@ impl Table {
         self.state = State::Void;
     }
 
+    /// At rest or open with what is left, or void where nothing is.
+    fn conclude(&mut self, outcome: Result<(), Empty>)
+        ensures { self.new ≡ or_void self.old (left self.old outcome) }
+    {
+        match outcome {
+            Ok(()) => self.rest(),
+            Err(Empty) => self.make_void(),
+        }
+    }
+
     /// All ranges return to the limits, and all lines are due.
     pub(crate) fn return_to_limits(&mut self)
         ensures { self.new ≡ returned self.old }
@@ -70,10 +80,8 @@ impl Table {
         ensures { self.new ≡ cut_to_limits register self.old }
     {
         let limits = self.limits[register.index()];
-        match self.cut(register, limits) {
-            Ok(()) => self.rest(),
-            Err(Empty) => self.make_void(),
-        }
+        let left = self.cut(register, limits);
+        self.conclude(left);
     }
 
     /// The line at a place is due.
@@ -120,10 +128,8 @@ impl Table {
     fn step_line<C: Catalogue>(&mut self, catalogue: &C, checked: &CheckedLine)
         ensures { self.new ≡ or_void self.old (narrowed_by (C.meaning catalogue.now) checked.now.line self.old) }
     {
-        match self.narrow(catalogue, &checked.line) {
-            Ok(()) => self.rest(),
-            Err(Empty) => self.make_void(),
-        }
+        let left = self.narrow(catalogue, &checked.line);
+        self.conclude(left);
     }
 
     /// Takes the line at the lowest due place, which stops being due, and narrows it.

@@ -2,14 +2,14 @@ use crate::table::Table;
 use catalogue::interface::Catalogue;
 
 /// One board's limits and lines, and the ranges that its registers can have.
-#[derive(Drop)]
+#[derive(Debug, Drop)]
 pub struct Sheet<C: Catalogue> {
     pub(crate) catalogue: C,
     pub(crate) table: Table,
 }
 
 /// What a sheet shows. While it stands, nothing changes the sheet.
-#[derive(Drop)]
+#[derive(Debug, Drop)]
 pub struct Look<'a, C: Catalogue> {
     pub(crate) sheet: &'a Sheet<C>,
 }

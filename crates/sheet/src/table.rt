@@ -2,8 +2,8 @@ use crate::places::{Place, Places};
 use crate::registers::Register;
 use catalogue::types::Range;
 
-/// The line at a place, as plain numbers. A type apart from `DrawnLine`: a row is copied from the table, a drawn line is
-/// moved and used up by its check.
+/// The line at a place, as plain numbers, which the check makes a line again. A type apart from `DrawnLine`: a row is
+/// copied from the table, a drawn line is moved and used up by its check.
 #[derive(Clone, Copy, Debug, PartialEq, Eq)]
 pub struct Row {
     pub(crate) kind: u8,
@@ -21,7 +21,7 @@ pub enum State {
 }
 
 /// What a sheet holds: 32 registers and 64 places.
-#[derive(Drop)]
+#[derive(Debug, Drop)]
 pub struct Table {
     pub(crate) limits: [Range; 32],
     /// Beside the limits and not in one struct with them: the return to the limits copies one whole array to the other.

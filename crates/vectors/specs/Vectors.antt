@@ -2,8 +2,7 @@
 use Rattle.std.specs.Prelude.{ℕ, Bool, false, cond, ℤ, pos, neg_ℤ, Some, None, Option, ◌==◌}
 use Rattle.catalogue.specs.declared.types.Kind.{Kind}
 use Rattle.catalogue.specs.declared.types.Mode.{Mode}
-use Rattle.catalogue.specs.Modes.{only}
-use Rattle.catalogue.specs.Operations.{equal, span_of}
+use Rattle.catalogue.specs.Operations.{equal, nearest_reading}
 use Rattle.binary32.specs.Binary32.{binary32, binary}
 
 -- an infinity lies beyond the readings; any other pattern is read as the catalogue reads it
@@ -19,7 +18,7 @@ abbrev pub agrees_with : Kind → Mode → Option ℤ → Option ℤ → Option 
 agrees_with k m None y r = false
 agrees_with k m (Some x) None r = false
 agrees_with k m (Some x) (Some y) None = false
-agrees_with k m (Some x) (Some y) (Some r) = equal (span_of binary32 k (only m) x y).least r
+agrees_with k m (Some x) (Some y) (Some r) = equal (binary32.result k m (nearest_reading binary32 x) (nearest_reading binary32 y)) r
 
 abbrev pub agreement : Kind → Mode → ℕ → ℕ → ℕ → Bool
 agreement k m x y r = agrees_with k m (binary.reads x) (binary.reads y) (expected r)

@@ -6,15 +6,15 @@ ghost use Rattle.std.specs.Prelude.{◌≡◌};
 ghost use Rattle.vectors.specs.Vectors.{agreement, expected as Expected};
 ghost use Rattle.binary32.specs.Binary32.{binary};
 
-use binary32::binary32::Binary32;
-use catalogue::arithmetic::Arithmetic;
+use binary32::binary32::{Binary32, round};
+use catalogue::arithmetic::Readings;
 use catalogue::interface::Catalogue;
-use catalogue::types::{Kind, Mode, Modes, Operation};
+use catalogue::types::{Kind, Mode};
 use std::{fmt, fs};
 use words::{Lines, Words, pattern};
 
 /// The rank beyond the greatest reading.
-const BEYOND: i32 = 2_139_095_040;
+const BEYOND: i32 = <Binary32 as Readings>::GREATEST + 1;
 
 /// The rounding modes, in the order in which a case has its results.
 const MODES: [Mode; 4] = [Mode::Nearest, Mode::Up, Mode::Down, Mode::TowardZero];
@@ -71,13 +71,7 @@ fn agrees(kind: Kind, mode: Mode, x: u32, y: u32, published: u32) -> bool
     ensures { result ≡ agreement kind mode x y published }
 {
     match (rank(x), rank(y), expected(published)) {
-        (Some(x), Some(y), Some(expected)) => {
-            let operation = Operation {
-                kind,
-                modes: Modes::only(mode),
-            };
-            Binary32::new().span(operation, x, y).least == expected
-        }
+        (Some(x), Some(y), Some(expected)) => round(kind, mode, x, y) == expected,
         _ => false,
     }
 }
