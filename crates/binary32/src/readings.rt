@@ -39,7 +39,7 @@ impl Reading {
         ensures { result ≡ nearest_reading Arithmetic32 rank }
     {
         Reading {
-            rank: rank.max(LEAST).min(GREATEST),
+            rank: rank.clamp(LEAST, GREATEST),
         }
     }
 

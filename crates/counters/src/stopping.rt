@@ -20,7 +20,7 @@ impl Scale {
         ensures value { result ≡ nearest_reading (stopping self.end) rank }
         ensures reads { Reading (stopping self.end) result }
     {
-        rank.max(0).min(self.end as i32)
+        rank.clamp(0, self.end as i32)
     }
 
     /// The result of an operation. An operand that is no reading counts as the nearest one.
