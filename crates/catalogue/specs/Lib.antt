@@ -12,3 +12,4 @@ pub mod Search
 pub mod Whole
 pub mod Partners
 pub mod Meanings
+pub mod Given

@@ -16,7 +16,8 @@ impl Modes {
         }
     }
 
-    /// The set's first mode, in the order above; toward zero for a set with none.
+    /// The set's first mode, in the order above; toward zero for a set with none. With `find` over the modes in place of
+    /// the chain the proof did not close.
     pub fn first(self) -> Mode
         ensures { result ≡ first_mode self }
     {

@@ -3,6 +3,7 @@ ghost use Rattle.catalogue.specs.Ranges.{all_three, meet, unless_empty};
 ghost use Rattle.catalogue.specs.Operations.{falls_in_y, readings, span_of};
 ghost use Rattle.catalogue.specs.Narrowing.{Narrowing, y_for_greatest, y_for_least};
 ghost use Rattle.catalogue.specs.Search.{between as Between, kept as Kept, narrowed, narrowed_readings, keeps_x, keeps_y, keeps_z, reaches, results as Results, stays_in};
+ghost use Rattle.catalogue.specs.Given.{triple_of};
 ghost use Rattle.catalogue.specs.Whole.{reaches_into, span_at_high, span_at_low};
 
 use crate::arithmetic::Arithmetic;
@@ -48,7 +49,7 @@ impl Span {
 
 impl Question {
     /// The question whether the greatest result reaches z's low.
-    fn reaches(operation: Operation, operand: Operand, other: i32, z: Range) -> Question
+    fn reaches(operation: Operation, operand: Operand, other: i32, z: NonEmpty) -> Question
         ensures { result ≡ reaches operation.kind operation.modes operand other z }
     {
         Question {
@@ -56,12 +57,12 @@ impl Question {
             operand,
             other,
             asks: Asks::AtLeast,
-            bound: z.low,
+            bound: z.low(),
         }
     }
 
     /// The question whether the least result does not pass z's high.
-    fn stays_in(operation: Operation, operand: Operand, other: i32, z: Range) -> Question
+    fn stays_in(operation: Operation, operand: Operand, other: i32, z: NonEmpty) -> Question
         ensures { result ≡ stays_in operation.kind operation.modes operand other z }
     {
         Question {
@@ -69,9 +70,17 @@ impl Question {
             operand,
             other,
             asks: Asks::AtMost,
-            bound: z.high,
+            bound: z.high(),
         }
     }
+}
+
+/// Three given ranges of readings, cut and not empty.
+#[derive(Clone, Copy)]
+struct Given {
+    x: NonEmpty,
+    y: NonEmpty,
+    z: NonEmpty,
 }
 
 /// The range between two ends, unless one is missing or it is empty.
@@ -142,7 +151,7 @@ impl<A: Arithmetic> Constraint<'_, A> {
         range: NonEmpty,
         for_least: i32,
         for_greatest: i32,
-        z: Range,
+        z: NonEmpty,
     ) -> Option<NonEmpty>
         ensures { result ≡ Kept (A.arith self.now.arithmetic.now) self.now.operation.kind self.now.operation.modes operand range for_least for_greatest z }
     {
@@ -162,48 +171,54 @@ impl<A: Arithmetic> Constraint<'_, A> {
     }
 
     /// What x keeps of its range.
-    fn keep_x(&self, x: NonEmpty, y: NonEmpty, z: Range) -> Option<NonEmpty>
-        ensures { result ≡ keeps_x (A.arith self.now.arithmetic.now) self.now.operation.kind self.now.operation.modes record { x = x; y = y; z = z } }
+    fn keep_x(&self, given: Given) -> Option<NonEmpty>
+        ensures { result ≡ keeps_x (A.arith self.now.arithmetic.now) self.now.operation.kind self.now.operation.modes (triple_of given) }
     {
         let kind = self.operation.kind;
         self.kept(
             Operand::X,
-            x,
-            kind.y_for_least(y),
-            kind.y_for_greatest(y),
-            z,
+            given.x,
+            kind.y_for_least(given.y),
+            kind.y_for_greatest(given.y),
+            given.z,
         )
     }
 
     /// What y keeps of its range.
-    fn keep_y(&self, x: NonEmpty, y: NonEmpty, z: Range) -> Option<NonEmpty>
-        ensures { result ≡ keeps_y (A.arith self.now.arithmetic.now) self.now.operation.kind self.now.operation.modes record { x = x; y = y; z = z } }
+    fn keep_y(&self, given: Given) -> Option<NonEmpty>
+        ensures { result ≡ keeps_y (A.arith self.now.arithmetic.now) self.now.operation.kind self.now.operation.modes (triple_of given) }
     {
-        self.kept(Operand::Y, y, x.low(), x.high(), z)
+        self.kept(Operand::Y, given.y, given.x.low(), given.x.high(), given.z)
     }
 
     /// What z keeps of its range.
-    fn keep_z(&self, x: NonEmpty, y: NonEmpty, z: Range) -> Option<NonEmpty>
-        ensures { result ≡ keeps_z (A.arith self.now.arithmetic.now) self.now.operation.kind self.now.operation.modes record { x = x; y = y; z = z } }
+    fn keep_z(&self, given: Given) -> Option<NonEmpty>
+        ensures { result ≡ keeps_z (A.arith self.now.arithmetic.now) self.now.operation.kind self.now.operation.modes (triple_of given) }
     {
-        z.meet(self.results(x, y)).unless_empty()
+        given
+            .z
+            .range()
+            .meet(self.results(given.x, given.y))
+            .unless_empty()
     }
 
     /// What each range keeps, found by search; all three answers come from the same given ranges.
-    fn search(&self, x: NonEmpty, y: NonEmpty, z: Range) -> Option<Triple>
-        ensures { result ≡ narrowed_readings (A.arith self.now.arithmetic.now) self.now.operation.kind self.now.operation.modes record { x = x; y = y; z = z } }
+    fn search(&self, given: Given) -> Option<Triple>
+        ensures { result ≡ narrowed_readings (A.arith self.now.arithmetic.now) self.now.operation.kind self.now.operation.modes (triple_of given) }
     {
         Some(Triple {
-            x: self.keep_x(x, y, z)?.range(),
-            y: self.keep_y(x, y, z)?.range(),
-            z: self.keep_z(x, y, z)?.range(),
+            x: self.keep_x(given)?.range(),
+            y: self.keep_y(given)?.range(),
+            z: self.keep_z(given)?.range(),
         })
     }
 
     /// Ranges of readings, narrowed. A search is made only where x or y does not keep all of its range.
-    fn narrow_readings(&self, x: NonEmpty, y: NonEmpty, z: Range) -> Option<Triple>
-        ensures { result ≡ narrowed_readings (A.arith self.now.arithmetic.now) self.now.operation.kind self.now.operation.modes record { x = x; y = y; z = z } }
+    fn narrow_readings(&self, given: Given) -> Option<Triple>
+        ensures { result ≡ narrowed_readings (A.arith self.now.arithmetic.now) self.now.operation.kind self.now.operation.modes (triple_of given) }
     {
+        let Given { x, y, z } = given;
+        let z = z.range();
         let results = self.results(x, y);
         if z.holds_all(results) {
             return whole(x.range(), y.range(), z, results);
@@ -211,7 +226,7 @@ impl<A: Arithmetic> Constraint<'_, A> {
         if self.span_at_low(x, y).reaches_into(z) && self.span_at_high(x, y).reaches_into(z) {
             return whole(x.range(), y.range(), z, results);
         }
-        self.search(x, y, z)
+        self.search(given)
     }
 
     /// The given ranges, cut to the readings and then narrowed.
@@ -219,10 +234,11 @@ impl<A: Arithmetic> Constraint<'_, A> {
         ensures { result ≡ narrowed (A.arith self.now.arithmetic.now) self.now.operation.kind self.now.operation.modes given }
     {
         let readings = self.readings();
-        let x = readings.meet(given.x).unless_empty()?;
-        let y = readings.meet(given.y).unless_empty()?;
-        let z = readings.meet(given.z).unless_empty()?;
-        self.narrow_readings(x, y, z.range())
+        self.narrow_readings(Given {
+            x: readings.meet(given.x).unless_empty()?,
+            y: readings.meet(given.y).unless_empty()?,
+            z: readings.meet(given.z).unless_empty()?,
+        })
     }
 }
 

@@ -19,7 +19,8 @@ impl Range {
         self.low <= other.low && other.high <= self.high
     }
 
-    /// Whether the range, which lies within another, is smaller than that.
+    /// Whether the range, which lies within another, is smaller than that. No `!=`, since each end is compared in the
+    /// direction in which it can have moved.
     pub fn is_smaller_than(self, other: Range) -> bool
         ensures { result ≡ smaller self other }
     {
@@ -37,10 +38,10 @@ impl Range {
     pub fn unless_empty(self) -> Option<NonEmpty>
         ensures { result ≡ unless_empty self }
     {
-        if self.low <= self.high {
-            Some(NonEmpty { bounds: self })
-        } else {
+        if self.is_empty() {
             None
+        } else {
+            Some(NonEmpty { bounds: self })
         }
     }
 

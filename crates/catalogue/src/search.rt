@@ -7,7 +7,8 @@ use crate::arithmetic::Arithmetic;
 use crate::non_empty::NonEmpty;
 use crate::types::{Asks, Operand, Question, Range, Span};
 
-/// The rank `k` above another, or below it.
+/// The rank `k` above another, or below it. That it is a number of 32 bits is no fact about one value, but about all
+/// three, so that it stands as a precondition here and below.
 fn moved(up: bool, from: i32, k: u32) -> i32
     requires { FitsSigned w32 (Moved up from k) }
     ensures { result ≡ Moved up from k }
@@ -28,20 +29,20 @@ fn origin(rises: bool, range: Range) -> i32
 
 impl Question {
     /// The least and the greatest result with a rank in the place that is asked about.
-    fn span<A: Arithmetic>(self, a: &A, rank: i32) -> Span
-        ensures { result ≡ asked_span (A.arith a.now) self rank }
+    fn span<A: Arithmetic>(self, arithmetic: &A, rank: i32) -> Span
+        ensures { result ≡ asked_span (A.arith arithmetic.now) self rank }
     {
         match self.operand {
-            Operand::X => a.span(self.operation, rank, self.other),
-            Operand::Y => a.span(self.operation, self.other, rank),
+            Operand::X => arithmetic.span(self.operation, rank, self.other),
+            Operand::Y => arithmetic.span(self.operation, self.other, rank),
         }
     }
 
     /// Whether a rank passes.
-    fn passes<A: Arithmetic>(self, a: &A, rank: i32) -> bool
-        ensures { result ≡ Passes (A.arith a.now) self rank }
+    fn passes<A: Arithmetic>(self, arithmetic: &A, rank: i32) -> bool
+        ensures { result ≡ Passes (A.arith arithmetic.now) self rank }
     {
-        let span = self.span(a, rank);
+        let span = self.span(arithmetic, rank);
         match self.asks {
             Asks::AtLeast => self.bound <= span.greatest,
             Asks::AtMost => span.least <= self.bound,
@@ -63,23 +64,23 @@ impl Question {
     }
 
     /// Whether the rank `k` on from another passes.
-    fn passes_at<A: Arithmetic>(self, a: &A, from: i32, k: u32) -> bool
+    fn passes_at<A: Arithmetic>(self, arithmetic: &A, from: i32, k: u32) -> bool
         requires { FitsSigned w32 (Moved (Rises self) from k) }
-        ensures { result ≡ Passes (A.arith a.now) self (Moved (Rises self) from k) }
+        ensures { result ≡ Passes (A.arith arithmetic.now) self (Moved (Rises self) from k) }
     {
-        self.passes(a, moved(self.rises(), from, k))
+        self.passes(arithmetic, moved(self.rises(), from, k))
     }
 
     /// How many ranks, at most `n`, to go on from another to the first that passes.
     /// The ends are tested first; then the steps double while they fail and halve where they pass.
-    fn distance<A: Arithmetic>(self, a: &A, from: i32, n: u32) -> Option<u32>
+    fn distance<A: Arithmetic>(self, arithmetic: &A, from: i32, n: u32) -> Option<u32>
         requires { FitsSigned w32 (Moved (Rises self) from n) }
-        ensures { result ≡ First (λ k. Passes (A.arith a.now) self (Moved (Rises self) from k)) n }
+        ensures { result ≡ First (λ k. Passes (A.arith arithmetic.now) self (Moved (Rises self) from k)) n }
     {
-        if self.passes_at(a, from, 0) {
+        if self.passes_at(arithmetic, from, 0) {
             return Some(0);
         }
-        if !self.passes_at(a, from, n) {
+        if !self.passes_at(arithmetic, from, n) {
             return None;
         }
         let mut low = 0;
@@ -88,7 +89,7 @@ impl Question {
         // No index is counted: two bounds close in on each other.
         while high - low > 1 {
             let by = step.min((high - low) / 2);
-            if self.passes_at(a, from, low + by) {
+            if self.passes_at(arithmetic, from, low + by) {
                 high = low + by;
             } else {
                 low += by;
@@ -99,11 +100,11 @@ impl Question {
     }
 
     /// The end of what passes in a range.
-    pub(crate) fn edge<A: Arithmetic>(self, a: &A, range: NonEmpty) -> Option<i32>
-        ensures { result ≡ Edge (A.arith a.now) self range }
+    pub(crate) fn edge<A: Arithmetic>(self, arithmetic: &A, range: NonEmpty) -> Option<i32>
+        ensures { result ≡ Edge (A.arith arithmetic.now) self range }
     {
         let from = origin(self.rises(), range.range());
-        let k = self.distance(a, from, range.extent())?;
+        let k = self.distance(arithmetic, from, range.extent())?;
         Some(moved(self.rises(), from, k))
     }
 }

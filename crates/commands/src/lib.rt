@@ -142,7 +142,7 @@ fn partner(mut words: Words<'_>) -> Option<Command>
     Some(Command::Partner { place, x, z })
 }
 
-/// None where a further word follows.
+/// None where a further word follows, so that `?` ends the reading of a command.
 fn no_more(mut words: Words<'_>) -> Option<()>
     ensures { result ≡ none_left words.entry }
 {

@@ -25,7 +25,7 @@ impl From<State> for Outcome {
     }
 }
 
-/// Whether a budget is none that a settle takes.
+/// Whether a budget is none that a settle takes. No type of its own: a settle alone takes one.
 fn is_bad_budget(budget: u32) -> bool
     ensures { result ≡ bad_budget budget }
 {

@@ -56,7 +56,7 @@ pub enum Event {
     Step,
 }
 
-/// How a settle ended.
+/// How a settle ended. A type apart from `State`: a sheet is open where its settle was stopped, and was open before.
 #[derive(Clone, Copy, Debug, PartialEq, Eq)]
 pub enum Outcome {
     Settled,

@@ -170,7 +170,8 @@ fn sized_as_number(word: &[u8]) -> bool
     }
 }
 
-/// A number of one to five decimal digits without leading zeros.
+/// A number of one to five decimal digits without leading zeros. `pattern` beside it has another size and base; both have
+/// their digits read by `digits`.
 #[tactic(auto, using(crate::proofs::Decimals::number_law))]
 pub fn number(word: &[u8]) -> Option<u32>
     ensures value { result ≡ number_of word.now }

@@ -18,14 +18,14 @@ moved-requires g c =
     let e = c.origin-from.ensures ∙ ap (λ v. origin v r) c.rises.ensures in
     let n = c.extent.ensures ∙ ap extent (sym c.range.ensures.value) in
     let h = simp to_z-of_z at c.in_ok-k.ensures in
-    let k = found_within (g.A.Arithmetic.arith c.args.a.now) q r (g.met.A.Arithmetic.laws c.args.a.now) c.origin-from.result c.extent.result c.in_ok-k.k top h in
+    let k = found_within (g.A.Arithmetic.arith c.args.arithmetic.now) q r (g.met.A.Arithmetic.laws c.args.arithmetic.now) c.origin-from.result c.extent.result c.in_ok-k.k top h in
     let end : FitsSigned w32 (moved b c.origin-from.result c.extent.result) =
     rw (e, n) (subst (FitsSigned w32) (sym (other_end b r c.range.ensures.proper)) (origin_fits (not b) r lo hi)) in
     rw (c.rises-2.ensures, to_z-of_z w32 c.origin-from.result) (fits_on_the_way b c.origin-from.result c.extent.result c.in_ok-k.k k f end)
 
 pub returns : goal.returns
 returns g c =
-    let a = g.A.Arithmetic.arith c.args.a.now in
+    let a = g.A.Arithmetic.arith c.args.arithmetic.now in
     let f : FitsSigned w32 c.origin-from.result = search rules in
     let m : FitsSigned w32 c.moved.result = search rules in
     let r = c.range.result in
@@ -37,7 +37,7 @@ returns g c =
 
 pub returns-in_err-k : goal.returns-in_err-k
 returns-in_err-k g c =
-    let a = g.A.Arithmetic.arith c.args.a.now in
+    let a = g.A.Arithmetic.arith c.args.arithmetic.now in
     let f : FitsSigned w32 c.origin-from.result = search rules in
     let r = c.range.result in
     let none : c.from_residual.result ≡ None = search rules in
