@@ -32,7 +32,7 @@ impl Modes {
         }
     }
 
-    /// The set of one mode alone.
+    /// The set of one mode alone. A name and no `From`, since it says that no other is in it.
     pub fn only(mode: Mode) -> Modes
         ensures { result ≡ Only mode }
     {

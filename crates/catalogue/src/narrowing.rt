@@ -48,7 +48,8 @@ impl Span {
 }
 
 impl Question {
-    /// The question whether the greatest result reaches z's low.
+    /// The question whether the greatest result reaches z's low. `stays_in` beside it asks of the other end; each has the
+    /// name of its definition.
     fn reaches(operation: Operation, operand: Operand, other: i32, z: NonEmpty) -> Question
         ensures { result ≡ reaches operation.kind operation.modes operand other z }
     {

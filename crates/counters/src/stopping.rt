@@ -15,7 +15,7 @@ pub(crate) struct Scale {
 }
 
 impl Scale {
-    /// The reading nearest to a rank.
+    /// The reading nearest to a rank. Binary32 has the like of constants; here the end is a value's.
     fn nearest(self, rank: i32) -> i32
         ensures value { result ≡ nearest_reading (stopping self.end) rank }
         ensures reads { Reading (stopping self.end) result }
