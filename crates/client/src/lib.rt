@@ -9,6 +9,7 @@ ghost use Rattle.sheet.specs.Lines.{checked};
 
 use catalogue::types::{Range, Refusal};
 use counters::counter::Counter;
+// `CheckedLine` is for the texts of `refused/`, which are put behind this file one at a time.
 use sheet::lines::{CheckedLine, DrawnLine};
 use sheet::sheet::Sheet;
 
