@@ -103,6 +103,7 @@ impl ExactSum {
     }
 
     /// The least and the greatest rank among the modes of a set. No mode gives less than down, and none more than up.
+    #[inline(always)]
     fn span(self, modes: Modes) -> Span
         ensures least { result.least ≡ least_of modes (rank_by self) }
         ensures greatest { result.greatest ≡ greatest_of modes (rank_by self) }
@@ -146,6 +147,8 @@ impl Add for Reading {
 
     ghost add_gives = { λ x y s. Locates (value x +ℤ value y) s };
 
+    // Inlined here and below, since a search makes little else.
+    #[inline(always)]
     fn add(self, other: Reading) -> ExactSum {
         let (larger, smaller) = ordered(self, other);
         sum_of(larger, smaller)
