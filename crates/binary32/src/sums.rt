@@ -147,7 +147,7 @@ impl Add for Reading {
 
     ghost add_gives = { λ x y s. Locates (value x +ℤ value y) s };
 
-    // Inlined here and below, since a search makes little else.
+    // Inlined, as `ExactSum::span` is, since a search makes little else.
     #[inline(always)]
     fn add(self, other: Reading) -> ExactSum {
         let (larger, smaller) = ordered(self, other);
