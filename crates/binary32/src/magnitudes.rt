@@ -142,7 +142,8 @@ fn aligned(high: u64, low: u64, like: bool) -> u64
     if like { high + low } else { high - low }
 }
 
-/// Where the sum of two magnitudes lies or, where their signs are not alike, their difference.
+/// Where the sum of two magnitudes lies or, where their signs are not alike, their difference. A flag and no enum, here and
+/// above: whether two signs are alike decides it.
 pub(crate) fn locate(big: u32, small: u32, like: bool) -> Location
     requires reading { big < beyond }
     requires order { small ≤ big }

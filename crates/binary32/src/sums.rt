@@ -103,6 +103,7 @@ impl ExactSum {
     }
 
     /// The least and the greatest rank among the modes of a set. No mode gives less than down, and none more than up.
+    // Inlined, as a sum is.
     #[inline(always)]
     fn span(self, modes: Modes) -> Span
         ensures least { result.least ≡ least_of modes (rank_by self) }

@@ -129,8 +129,8 @@ impl<A: Arithmetic> Constraint<'_, A> {
         }
     }
 
-    /// The results for x's low end and the end of y's range that suits it best. `span_at_high` beside it is its mirror, with
-    /// both ends exchanged.
+    /// The results for x's low end and the end of y's range that suits it best. `span_at_high` beside it is its mirror;
+    /// each has the name of its definition.
     fn span_at_low(&self, x: NonEmpty, y: NonEmpty) -> Span
         ensures { result ≡ span_at_low (A.arith self.now.arithmetic.now) self.now.operation.kind self.now.operation.modes x y }
     {

@@ -43,7 +43,7 @@ impl NonEmpty {
         self.range().high
     }
 
-    /// The high end, or the low one.
+    /// The high end, or the low one: a flag, as `falls_in_y` answers it.
     pub(crate) fn end(self, high: bool) -> i32
         ensures { result ≡ (if high then self.high else self.low) }
     {

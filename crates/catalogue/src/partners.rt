@@ -36,6 +36,7 @@ impl<A: Arithmetic> Constraint<'_, A> {
         if !self.operation.modes.has(mode) {
             return None;
         }
+        // One mode of the set: a value that is written where it is used, here and in `round` of binary32.
         let operation = Operation {
             kind: self.operation.kind,
             modes: Modes::only(mode),

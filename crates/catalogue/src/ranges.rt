@@ -34,7 +34,7 @@ impl Range {
         self.high < self.low
     }
 
-    /// The range, unless it is empty. No `then_some`: a `NonEmpty` is made only where the test holds.
+    /// The range, unless it is empty. With `then` the proof did not close, since its closure does not know that the test held.
     pub fn unless_empty(self) -> Option<NonEmpty>
         ensures { result ≡ unless_empty self }
     {

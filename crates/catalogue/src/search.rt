@@ -7,7 +7,7 @@ use crate::arithmetic::Arithmetic;
 use crate::non_empty::NonEmpty;
 use crate::types::{Asks, Operand, Question, Range, Span};
 
-/// The rank `k` above another, or below it. That it is a number of 32 bits is no fact about one value, but about all
+/// The rank `k` above another, or below it: a flag, as `rises` answers it. That it is a number of 32 bits is no fact about one value, but about all
 /// three, so that it stands as a precondition here and below.
 fn moved(up: bool, from: i32, k: u32) -> i32
     requires { FitsSigned w32 (Moved up from k) }
@@ -27,6 +27,7 @@ fn origin(rises: bool, range: Range) -> i32
     if rises { range.low } else { range.high }
 }
 
+// The arithmetic goes beside a question and not into it, since a question is a value that the definitions speak of.
 impl Question {
     /// The least and the greatest result with a rank in the place that is asked about.
     fn span<A: Arithmetic>(self, arithmetic: &A, rank: i32) -> Span

@@ -49,6 +49,7 @@ fn carry_out<C: Catalogue>(sheet: &mut Sheet<C>, command: Command) -> Result<Ans
             y,
             z,
         } => {
+            // Written out here and in `long_use`, since a command does not know the types of a sheet.
             let kind = u32::from(u8::from(kind));
             let drawn = DrawnLine {
                 kind,

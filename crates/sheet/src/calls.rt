@@ -55,6 +55,7 @@ impl Table {
     }
 }
 
+// Calls take any number, and refuse what names nothing by number: none has a precondition.
 impl<C: Catalogue> Sheet<C> {
     /// A sheet with no lines, and limits from the least to the greatest reading.
     pub fn new(catalogue: C) -> Self

@@ -18,7 +18,7 @@ impl State {
 }
 
 impl Table {
-    /// What the table makes of an event in the state that it is in.
+    /// What the table makes of an event in the state that it is in: one match of both, as the rules' table has them.
     fn react<C: Catalogue>(&mut self, catalogue: &C, event: Event)
         ensures { self.new ≡ reacted (C.meaning catalogue.now) self.old.state event self.old }
     {

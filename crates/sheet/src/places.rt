@@ -3,8 +3,8 @@ ghost use Rattle.std.specs.Prelude.{◌≡◌, ◌<◌};
 use catalogue::types::Refusal;
 use std::marker::Model;
 
-/// One of a sheet's 64 places for lines. A type apart from `Register`: no place is ever taken for one, and it is refused
-/// by another number.
+/// One of a sheet's 64 places for lines. A type apart from `Register`, and not one with a parameter: that would need a
+/// trait for the refusal, which is longer than what the two repeat.
 #[derive(Clone, Copy, Debug, PartialEq, Eq)]
 pub struct Place {
     number: u8,

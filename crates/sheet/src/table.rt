@@ -2,8 +2,8 @@ use crate::places::{Place, Places};
 use crate::registers::Register;
 use catalogue::types::Range;
 
-/// The line at a place, as plain numbers, which the check makes a line again. A type apart from `DrawnLine`: a row is
-/// copied from the table, a drawn line is moved and used up by its check.
+/// The line at a place, as plain numbers, which the check makes a line again: the row of a free place is no line. A type
+/// apart from `DrawnLine`: a row is copied from the table, a drawn line is moved and used up by its check.
 #[derive(Clone, Copy, Debug, PartialEq, Eq)]
 pub struct Row {
     pub(crate) kind: u8,
@@ -20,7 +20,7 @@ pub enum State {
     Void,
 }
 
-/// What a sheet holds: 32 registers and 64 places.
+/// What a sheet holds: 32 registers and 64 places, in arrays, since a sheet allocates nothing.
 #[derive(Debug, Drop)]
 pub struct Table {
     pub(crate) limits: [Range; 32],
@@ -56,7 +56,8 @@ pub enum Event {
     Step,
 }
 
-/// How a settle ended. A type apart from `State`: a sheet is open where its settle was stopped, and was open before.
+/// How a settle ended. A type apart from `State`: `Stopped` says that a budget was spent, and `Open` is also said of a
+/// sheet that nobody settled.
 #[derive(Clone, Copy, Debug, PartialEq, Eq)]
 pub enum Outcome {
     Settled,
