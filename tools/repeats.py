@@ -3,7 +3,7 @@
 
 Reads each function of crates/*/src and prints: twins (functions whose texts are equal once names of types, numbers and
 called functions are taken out), facts that stand in the preconditions of three functions or more, parameters that stand
-together in three functions or more, and how many proof answers there are.
+together in four functions or more, and how many proof answers there are.
 """
 import collections, pathlib, re, sys
 
