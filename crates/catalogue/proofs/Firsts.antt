@@ -1,4 +1,4 @@
--- The first number that passes a test: what the definition by halving finds, that nothing else is, and what a search has in hand where it ends.
+-- The first number that passes a test: what the definition by halving finds, that nothing else is, and what a search has in hand on its way and where it ends.
 use Rattle.std.proofs.Common.{◌≡◌, ℕ, zero, suc, ◌+◌, ◌-◌, ◌^◌, ◌<◌, ◌≤◌, Bool, true, false, cond, leb, Some, None, Option, sym, refl, ap, ◌∙◌, subst, ⊎_elim, arith, pow_pos}
 use native.Mathlib.Nat.{two-pow-succ}
 use Rattle.std.proofs.lemmas.Bool.{both_ways, cond_both, cases_lt, cases_order, le-leb, lt-leb, cond-true, cond-false}
@@ -73,18 +73,19 @@ first_unique p n (Some k) (Some j) a b = ⊎_elim (λ (e : k ≡ j). ap Some e) 
     (λ (lt : k < j). absurd (both_ways (p k) (b.2 k lt) a.1))
     (λ (lt : j < k). absurd (both_ways (p j) (a.2 j lt) b.1))) (cases_order k j)
 
--- ---- what the search has in hand where it ends
-module _ (p : ℕ → Bool) (n : ℕ) (top : n < 2 ^ 32) (st : Stays p n) where
-  pub found_next : (low high : ℕ) → p low ≡ false → p high ≡ true → low < high → high ≤ low + 1 → high ≤ n → Some high ≡ first p n
-  found_next low high a b lt le hn = first_unique p n (Some high) (first p n)
-      (hn, b, λ j h. not_passed (p j) (λ e. both_ways (p low) a (st j low (omega arith) (omega arith) e)))
-      (first_is p n st top)
+-- ---- what the search has in hand on its way and where it ends
+module _ (p : ℕ → Bool) (n : ℕ) (st : Stays p n) where
+  pub fail_before : (m : ℕ) → m ≤ n → p m ≡ false → (j : ℕ) → j ≤ m → p j ≡ false
+  fail_before m mn a j h = not_passed (p j) (λ e. both_ways (p m) a (st j m h mn e))
 
-  pub found_zero : p 0 ≡ true → Some 0 ≡ first p n
-  found_zero a = first_unique p n (Some 0) (first p n) (omega arith, a, λ j h. absurd (none j h)) (first_is p n st top)
+  pub found_first : n < 2 ^ 32 → (k : ℕ) → k ≤ n → p k ≡ true → ((j : ℕ) → j < k → p j ≡ false) → Some k ≡ first p n
+  found_first top k kn a before = first_unique p n (Some k) (first p n) (kn, a, before) (first_is p n st top)
+
+  pub found_zero : n < 2 ^ 32 → p 0 ≡ true → Some 0 ≡ first p n
+  found_zero top a = found_first top 0 (omega arith) a (λ j h. absurd (none j h))
     where
       none : (i : ℕ) → i < 0 → ⊥
       none i lt = omega arith
 
-  pub found_none : p n ≡ false → None ≡ first p n
-  found_none a = first_unique p n None (first p n) (λ k h. not_passed (p k) (λ e. both_ways (p n) a (st k n h (omega arith) e))) (first_is p n st top)
+  pub found_none : n < 2 ^ 32 → (m : ℕ) → m ≡ n → p m ≡ false → None ≡ first p n
+  found_none top m e a = first_unique p n None (first p n) (fail_before n (omega arith) (subst (λ k. p k ≡ false) e a)) (first_is p n st top)

@@ -58,13 +58,18 @@ impl<A: Arithmetic> Constraint<'_, A> {
         ensures { result ≡ partner_in (A.arith self.now.arithmetic.now) self.now.operation.kind self.now.operation.modes x z y }
     {
         let y = y?;
-        // All four, though the first may do: what a closure for `or_else` answers is not known here, where the arithmetic is
-        // any, and the proof did not close.
-        let nearest = self.partner_by(x, z, y, Mode::Nearest);
-        let up = self.partner_by(x, z, y, Mode::Up);
-        let down = self.partner_by(x, z, y, Mode::Down);
-        let toward_zero = self.partner_by(x, z, y, Mode::TowardZero);
-        nearest.or(up).or(down).or(toward_zero)
+        // One by one, so that no search is made once one is found. What a closure for `or_else` answers is not known here,
+        // where the arithmetic is any; with `find_map` over the modes the proof did not close either.
+        if let Some(v) = self.partner_by(x, z, y, Mode::Nearest) {
+            return Some(v);
+        }
+        if let Some(v) = self.partner_by(x, z, y, Mode::Up) {
+            return Some(v);
+        }
+        if let Some(v) = self.partner_by(x, z, y, Mode::Down) {
+            return Some(v);
+        }
+        self.partner_by(x, z, y, Mode::TowardZero)
     }
 
     /// A partner in any range; only readings x and z have one.

@@ -5,7 +5,7 @@ ghost use Rattle.catalogue.specs.Search.{asked_span, edge as Edge, moved as Move
 
 use crate::arithmetic::Arithmetic;
 use crate::non_empty::NonEmpty;
-use crate::types::{Asks, Operand, Question, Range, Span};
+use crate::types::{Asks, Kind, Mode, Modes, Operand, Operation, Question, Range, Span};
 
 /// The rank `k` above another, or below it: a flag, as `rises` answers it. That it is a number of 32 bits is no fact about one value, but about all
 /// three, so that it stands as a precondition here and below.
@@ -72,8 +72,27 @@ impl Question {
         self.passes(arithmetic, moved(self.rises(), from, k))
     }
 
+    /// A rank near which the last that fails is likely to lie: the rank just short of the bound, with the other operand
+    /// taken off. Only the time that a search takes depends on it.
+    fn likely<A: Arithmetic>(self, arithmetic: &A) -> i32 {
+        let short = match self.asks {
+            Asks::AtLeast => self.bound.saturating_sub(1),
+            Asks::AtMost => self.bound.saturating_add(1),
+        };
+        let (kind, x, y) = match (self.operation.kind, self.operand) {
+            (Kind::Sum, _) => (Kind::Difference, short, self.other),
+            (Kind::Difference, Operand::X) => (Kind::Sum, short, self.other),
+            (Kind::Difference, Operand::Y) => (Kind::Difference, self.other, short),
+            (Kind::Peak, _) => return short,
+        };
+        let mode = if self.rises() { Mode::Down } else { Mode::Up };
+        let modes = Modes::only(mode);
+        arithmetic.span(Operation { kind, modes }, x, y).least
+    }
+
     /// How many ranks, at most `n`, to go on from another to the first that passes.
-    /// The ends are tested first; then the steps double while they fail and halve where they pass.
+    /// The near end is tested first, then what is likely; from there the steps grow while they fail, or pass, alike, and
+    /// then halve.
     fn distance<A: Arithmetic>(self, arithmetic: &A, from: i32, n: u32) -> Option<u32>
         requires { FitsSigned w32 (Moved (Rises self) from n) }
         ensures { result ≡ First (λ k. Passes (A.arith arithmetic.now) self (Moved (Rises self) from k)) n }
@@ -81,21 +100,24 @@ impl Question {
         if self.passes_at(arithmetic, from, 0) {
             return Some(0);
         }
-        if !self.passes_at(arithmetic, from, n) {
-            return None;
-        }
         let mut low = 0;
         let mut high = n;
-        let mut step = 1;
-        // No index is counted: two bounds close in on each other.
-        while high - low > 1 {
-            let by = step.min((high - low) / 2);
-            if self.passes_at(arithmetic, from, low + by) {
-                high = low + by;
+        let mut next = from.abs_diff(self.likely(arithmetic)).saturating_add(1);
+        let mut step: u32 = 1;
+        // No index is counted: two bounds close in on each other. All before `low` fail, and `high` passes unless it is `n`.
+        while low < high {
+            let middle = next.clamp(low, high - 1);
+            if self.passes_at(arithmetic, from, middle) {
+                high = middle;
+                next = middle.saturating_sub(step.min((high - low) / 2));
             } else {
-                low += by;
-                step = 2 * by;
+                low = middle + 1;
+                next = middle.saturating_add(step.min((high - low) / 2));
             }
+            step = step.saturating_mul(16);
+        }
+        if high == n && !self.passes_at(arithmetic, from, high) {
+            return None;
         }
         Some(high)
     }

@@ -1,30 +1,43 @@
-use Rattle.std.proofs.Common.{sym, arith, w32, rules}
+use Rattle.std.proofs.Common.{◌<◌, ◌≤◌, sym, arith, w32, rules}
 use Rattle.std.proofs.lemmas.Int.{to_z-of_z}
 use Rattle.catalogue.specs.Search.{rises}
 use Rattle.catalogue.proofs.Rising.{stays, fits_on_the_way}
-use Rattle.catalogue.proofs.Firsts.{found_next, found_zero, found_none}
+use Rattle.catalogue.proofs.Firsts.{fail_before, found_first, found_zero, found_none}
 use Rattle.catalogue.proofs.types.Question.distance.Goals as goal
-
-pub passes_at-requires : goal.passes_at-requires
-passes_at-requires g c =
-    rw (to_z-of_z w32 c.args.from c.ranges.from)
-    (fits_on_the_way (rises c.args.self) c.args.from c.args.n 0 (omega arith) c.ranges.from c.requires)
+use Rattle.catalogue.proofs.types.Question.distance.Goals.{then-passes_at-2, else-passes_at-2, else-high-n-via-then-high-n+else-not-passes_at, else-high-n-via-else-high-n}
 
 pub returns-then-passes_at : goal.returns-then-passes_at
-returns-then-passes_at g c = found_zero _ _ c.ranges.n.fits (stays _ (g.met.A.Arithmetic.laws _) c.args.self c.args.from c.args.n)
+returns-then-passes_at g c = found_zero _ _ (stays _ (g.met.A.Arithmetic.laws _) c.args.self c.args.from c.args.n) c.ranges.n.fits
     (rw (to_z-of_z w32 c.args.from c.ranges.from) at (sym c.if-passes_at.ensures))
 
-pub returns-then-not-passes_at : goal.returns-then-not-passes_at
-returns-then-not-passes_at g c = found_none _ _ c.ranges.n.fits (stays _ (g.met.A.Arithmetic.laws _) c.args.self c.args.from c.args.n)
-    (rw (to_z-of_z w32 c.args.from c.ranges.from) at (sym c.if-not-passes_at.ensures))
-
-pub passes_at-requires-in-loop-high : goal.passes_at-requires-in-loop-high
-passes_at-requires-in-loop-high g c =
+pub passes_at-requires-in-loop-low : goal.passes_at-requires-in-loop-low
+passes_at-requires-in-loop-low g c =
     rw (to_z-of_z w32 c.args.from c.ranges.from)
     (fits_on_the_way (rises c.args.self) c.args.from c.args.n _ (search rules) c.ranges.from c.requires)
 
+pub loop-low-preserved : goal.loop-low-preserved
+loop-low-preserved g c =
+    let same = to_z-of_z w32 c.args.from c.ranges.from in
+    let low_middle : c.loop-low.low ≤ c.clamp-middle.result = search rules in
+    let middle_high : c.clamp-middle.result < c.loop-low.high = search rules in
+    let inv = c.loop-low.invariant in
+    elim c.if-passes_at-2.branch [
+    then-passes_at-2 w ↦ rw (w.low-is, w.high-is, same) (rw same at inv.0, (λ _. rw same at (sym w.if-passes_at-2.ensures)), low_middle, omega arith)
+    | else-passes_at-2 w ↦ rw (w.low-is, w.high-is, same) ((λ j h. fail_before _ _ (stays _ (g.met.A.Arithmetic.laws _) c.args.self c.args.from c.args.n) c.clamp-middle.result (omega arith) (rw same at (sym w.if-passes_at-2.ensures)) j (omega arith)), rw same at inv.1, omega arith, inv.3)
+    ]
+
+pub returns-then-not-passes_at : goal.returns-then-not-passes_at
+returns-then-not-passes_at g c = found_none _ _ (stays _ (g.met.A.Arithmetic.laws _) c.args.self c.args.from c.args.n) c.ranges.n.fits
+    c.loop-low.high c.if-high-n.true (rw (to_z-of_z w32 c.args.from c.ranges.from) at (sym c.if-not-passes_at.ensures))
+
 pub returns : goal.returns
-returns g c = found_next _ _ c.ranges.n.fits (stays _ (g.met.A.Arithmetic.laws _) c.args.self c.args.from c.args.n) c.loop-high.low c.loop-high.high
-    (rw (to_z-of_z w32 c.args.from c.ranges.from) at c.loop-high.invariant.0)
-    (rw (to_z-of_z w32 c.args.from c.ranges.from) at c.loop-high.invariant.1)
-    c.loop-high.invariant.2 (omega arith) c.loop-high.invariant.3
+returns g c =
+    let same = to_z-of_z w32 c.args.from c.ranges.from in
+    let inv = c.loop-low.invariant in
+    let high = c.loop-low.high in
+    let laws = stays _ (g.met.A.Arithmetic.laws _) c.args.self c.args.from c.args.n in
+    let before = rw same at inv.0 in
+    elim c.else-high-n.branch [
+    else-high-n-via-then-high-n+else-not-passes_at w ↦ found_first _ _ laws c.ranges.n.fits high inv.3 (rw same at (sym w.if-not-passes_at.ensures)) (λ j h. before j (omega arith))
+    | else-high-n-via-else-high-n w ↦ found_first _ _ laws c.ranges.n.fits high inv.3 (rw same at (inv.1 (omega arith))) (λ j h. before j (omega arith))
+    ]

@@ -2,10 +2,10 @@ use Rattle.std.proofs.Common.{◌≡◌, ℕ, ◌-◌, ◌<◌, ◌≤◌, Bool,
 use Rattle.catalogue.specs.Search.{passes, moved, rises}
 use Rattle.catalogue.proofs.types.Question.distance.Given as goal
 
-abbrev pub invariant-loop-high : goal.invariant-loop-high
-invariant-loop-high g l =
+abbrev pub invariant-loop-low : goal.invariant-loop-low
+invariant-loop-low g l =
     let p : ℕ → Bool = λ k. passes (g.A.Arithmetic.arith l.arithmetic) l.self (moved (rises l.self) l.from k) in
-    (p l.low ≡ false) × (p l.high ≡ true) × (l.low < l.high) × (l.high ≤ l.n) × (0 < l.step)
+    ((j : ℕ) → j < l.low → p j ≡ false) × (l.high < l.n → p l.high ≡ true) × (l.low ≤ l.high) × (l.high ≤ l.n)
 
-abbrev pub decreases-loop-high : goal.decreases-loop-high
-decreases-loop-high g l = l.high - l.low
+abbrev pub decreases-loop-low : goal.decreases-loop-low
+decreases-loop-low g l = l.high - l.low
