@@ -23,11 +23,15 @@ pub enum Answer {
     Partner(Option<u32>),
 }
 
+/// No answer's line is longer; room for it at once saves time, and nothing else depends on it.
+const ROOM: usize = 32;
+
 /// Appends the answer's line to `out`, which stays as it was where memory is short.
 pub fn write(out: &mut String, answer: Answer) -> Result<(), AllocError>
     ensures { string_bytes out.new ≡ (if is_ok result then string_bytes out.old ++ line_of (reply_of answer) else string_bytes out.old) }
 {
-    let line = format!(in *out.allocator(); "{answer}\n")?;
+    let mut line = String::with_capacity(*out.allocator(), ROOM)?;
+    writeln!(line, "{answer}")?;
     out.push_str(line.as_str())
 }
 
