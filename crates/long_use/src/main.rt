@@ -1,5 +1,6 @@
 //! A long-used sheet beside a new one: two scripts are replayed, and then a hundred thousand changes are made by a fixed
-//! rule, and time and again the sheet is compared with a new one that gets only the limits and lines that stand.
+//! rule, and time and again the sheet is compared with a new one that gets only the limits and lines that stand. At last
+//! two sheets that are unlike are compared, to show that a difference is seen.
 
 #![tactic(auto)]
 
@@ -332,6 +333,14 @@ fn soak<C: Catalogue + Copy + Drop>(
     Ok(counts)
 }
 
+/// Two new sheets, one with other limits at the last register: a comparison that sees nothing would find them alike.
+fn compare_unlike() -> Compared {
+    let mut one = Sheet::new(Counter);
+    let mut other = Sheet::new(Counter);
+    let _ = other.limit(31, 0, 1);
+    compare(&mut one, &mut other)
+}
+
 fn main(rt: HostRuntime) -> anyhow::Result<()> {
     let heap = rt.alloc();
     let counter = fs::read(&rt, "long_use_c.txt")?;
@@ -344,5 +353,7 @@ fn main(rt: HostRuntime) -> anyhow::Result<()> {
     println!(rt; "counter: 100000 changes, 100 comparisons: {counter}")?;
     let binary = soak(heap, Binary32::new(), 0x3F80_0000)?;
     println!(rt; "binary32: 100000 changes, 100 comparisons: {binary}")?;
+    println!(rt; "two sheets with other limits at register 31")?;
+    println!(rt; "{}", compare_unlike())?;
     Ok(())
 }

@@ -1,4 +1,5 @@
-//! Runs published binary32 vectors through the catalogue, and prints by class and mode how many agree.
+//! Runs published binary32 vectors through the catalogue, and prints by class and mode how many agree; and then a vector
+//! that was altered, to show that a wrong one is seen.
 
 #![tactic(auto)]
 
@@ -29,14 +30,23 @@ struct Case {
     exact: bool,
 }
 
-/// How many cases of a class there are, and how many agree under each mode.
+/// What of a case agrees: whether it is exact, and its results under the modes.
+#[derive(Clone, Copy)]
+struct Agreement {
+    exactness: bool,
+    results: [bool; 4],
+}
+
+/// How many cases of a class there are, in how many it agrees whether they are exact, and how many agree under each mode.
 #[derive(Clone, Copy, Default)]
 struct Tally {
     cases: u32,
+    exactness: u32,
     agreeing: [u32; 4],
 }
 
-/// The tallies of the four classes, each by its name, the lines that are no cases, and the first line that does not agree.
+/// The tallies of the four classes, each by its name, the lines that are no cases, how many cases do not agree in all, and
+/// the first line of these.
 #[derive(Clone, Copy, Default)]
 struct Report {
     lines: u32,
@@ -45,6 +55,7 @@ struct Report {
     exact_differences: Tally,
     rounded_differences: Tally,
     unreadable: u32,
+    mismatches: u32,
     first_mismatch: Option<u32>,
 }
 
@@ -74,6 +85,12 @@ fn agrees(kind: Kind, mode: Mode, x: u32, y: u32, published: u32) -> bool
         (Some(x), Some(y), Some(expected)) => round(kind, mode, x, y) == expected,
         _ => false,
     }
+}
+
+/// Whether a result is exact: up and down give one rank. None where an operand is no reading.
+fn is_exact(kind: Kind, x: u32, y: u32) -> Option<bool> {
+    let (x, y) = (rank(x)?, rank(y)?);
+    Some(round(kind, Mode::Up, x, y) == round(kind, Mode::Down, x, y))
 }
 
 /// The operation that a word names.
@@ -113,21 +130,33 @@ fn read_case(line: &[u8]) -> Option<Case> {
 }
 
 impl Case {
-    /// Under which modes the catalogue gives the published result.
-    fn agreement(&self) -> [bool; 4] {
-        let mut agreement = [false; 4];
-        for ((mode, result), here) in MODES.iter().zip(&self.results).zip(&mut agreement) {
+    /// In what the catalogue gives what was published.
+    fn agreement(&self) -> Agreement {
+        let mut results = [false; 4];
+        for ((mode, result), here) in MODES.iter().zip(&self.results).zip(&mut results) {
             *here = agrees(self.kind, *mode, self.x, self.y, *result);
         }
-        agreement
+        Agreement {
+            exactness: is_exact(self.kind, self.x, self.y) == Some(self.exact),
+            results,
+        }
+    }
+}
+
+impl Agreement {
+    fn is_whole(&self) -> bool {
+        self.exactness && !self.results.contains(&false)
     }
 }
 
 impl Tally {
     /// Counts a case.
-    fn count(&mut self, agreement: [bool; 4]) {
+    fn count(&mut self, agreement: Agreement) {
         self.cases = self.cases.saturating_add(1);
-        for (agreeing, here) in self.agreeing.iter_mut().zip(agreement) {
+        self.exactness = self
+            .exactness
+            .saturating_add(u32::from(agreement.exactness));
+        for (agreeing, here) in self.agreeing.iter_mut().zip(agreement.results) {
             *agreeing = agreeing.saturating_add(u32::from(here));
         }
     }
@@ -135,11 +164,14 @@ impl Tally {
 
 impl fmt::Display for Tally {
     fn fmt<W: fmt::Write>(&self, f: &mut fmt::Formatter<W>) -> fmt::Result {
-        let cases = self.cases;
-        let [nearest, up, down, toward_zero] = self.agreeing;
+        let Tally {
+            cases,
+            exactness,
+            agreeing: [nearest, up, down, toward_zero],
+        } = *self;
         write!(
             f,
-            "{cases} cases; nearest {nearest}, up {up}, down {down}, toward zero {toward_zero}"
+            "{cases} cases; exactness {exactness}, nearest {nearest}, up {up}, down {down}, toward zero {toward_zero}"
         )
     }
 }
@@ -164,7 +196,8 @@ impl Report {
         };
         let agreement = case.agreement();
         self.tally(case).count(agreement);
-        if agreement.contains(&false) {
+        if !agreement.is_whole() {
+            self.mismatches = self.mismatches.saturating_add(1);
             self.first_mismatch = self.first_mismatch.or(Some(self.lines));
         }
     }
@@ -178,7 +211,11 @@ impl fmt::Display for Report {
         writeln!(f, "rounded differences: {}", self.rounded_differences)?;
         writeln!(f, "lines that are no case: {}", self.unreadable)?;
         match self.first_mismatch {
-            Some(number) => write!(f, "first mismatch: line {number}"),
+            Some(number) => write!(
+                f,
+                "mismatches: {}, the first in line {number}",
+                self.mismatches
+            ),
             None => f.write_str("no mismatch"),
         }
     }
@@ -194,8 +231,12 @@ fn run(text: &[u8]) -> Report {
 }
 
 fn main(rt: HostRuntime) -> anyhow::Result<()> {
-    let text = fs::read(&rt, "binary32-add-sub.txt")?;
-    let report = run(text.as_slice());
+    let published = fs::read(&rt, "binary32-add-sub.txt")?;
+    let report = run(published.as_slice());
+    println!(rt; "{report}")?;
+    println!(rt; "altered:")?;
+    let altered = fs::read(&rt, "altered.txt")?;
+    let report = run(altered.as_slice());
     println!(rt; "{report}")?;
     Ok(())
 }
