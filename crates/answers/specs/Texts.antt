@@ -1,6 +1,6 @@
 -- The text of an answer, and the line that it makes.
 use Rattle.std.specs.Prelude.{ℕ, Bool, true, false, List, ◌++◌, Some, None, codes, decimal, Option}
-use Rattle.catalogue.specs.Refusals.{number_of}
+use Rattle.catalogue.specs.Refusals.{refusal_number}
 use Rattle.words.specs.Numbers.{written}
 use Rattle.answers.specs.declared.Answer.{Answer}
 use Rattle.answers.specs.declared.Answer.TheVariants.{Done, Declined, Stepped, Shown, Partner}
@@ -22,7 +22,7 @@ pub data Reply : Type 0 where
 
 abbrev pub reply_of : Answer → Reply
 reply_of Done = ok
-reply_of (Declined refusal) = refused (number_of refusal)
+reply_of (Declined refusal) = refused (refusal_number refusal)
 reply_of (Stepped outcome steps) = stepped (outcome_number outcome) steps
 reply_of (Shown s) = shown s.low s.high s.settled
 reply_of (Partner pattern) = paired pattern

@@ -147,7 +147,7 @@ module _ (a : Arith) (laws : ArithLaws a) where
 abbrev ends : ℤ → ℤ → Range
 ends l h = record { low = l; high = h }
 
-range_same : (r u : Range) → Within r u → Within u r → r ≡ u
+pub range_same : (r u : Range) → Within r u → Within u r → r ≡ u
 range_same r u p q =
     let l : r.low ≡ u.low = omega (arith, ints, p.0, q.0) in
     let h : r.high ≡ u.high = omega (arith, ints, p.1, q.1) in

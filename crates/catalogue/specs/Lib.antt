@@ -1,6 +1,6 @@
 -- The catalogue interface. Read from the top: what a reader must believe stands in Refusals, Numbers, Modes, Ranges, Operations, Narrowing and Meanings;
 -- First, Search and Partners compute answers, so that examples can be worked out, and are proved to agree with the words;
--- Whole says when a narrowing needs no search.
+-- Whole says when a narrowing needs no search; Given turns the code's three ranges into a Triple.
 pub mod Refusals
 pub mod Numbers
 pub mod Modes

@@ -1,3 +1,5 @@
+//! The interface to a board's arithmetic, its laws, and the one narrowing text.
+
 #![tactic(auto)]
 
 pub mod arithmetic;

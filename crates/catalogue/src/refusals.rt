@@ -3,9 +3,9 @@ use crate::types::Refusal;
 /// The number by which users know a refusal.
 impl From<Refusal> for u8 {
     ghost use Rattle.std.specs.Prelude.{◌≡◌};
-    ghost use Rattle.catalogue.specs.Refusals.{number_of};
+    ghost use Rattle.catalogue.specs.Refusals.{refusal_number};
 
-    ghost from_gives = { λ r n. n ≡ number_of r };
+    ghost from_gives = { λ r n. n ≡ refusal_number r };
 
     fn from(refusal: Refusal) -> u8 {
         match refusal {

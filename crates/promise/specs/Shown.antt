@@ -2,7 +2,7 @@
 use Rattle.std.specs.Prelude.{ℕ, Bool, cond, Ok, Err, Result}
 use Rattle.catalogue.specs.declared.types.Refusal.{Refusal}
 use Rattle.catalogue.specs.Meanings.{Meaning}
-use Rattle.catalogue.specs.Refusals.{number_of}
+use Rattle.catalogue.specs.Refusals.{refusal_number}
 use Rattle.sheet.specs.declared.table.Table.{Table}
 use Rattle.sheet.specs.Calls.{in_patterns, is_settled, is_void, shown}
 use Rattle.promise.specs.declared.Shown.{Shown}
@@ -10,7 +10,7 @@ use Rattle.promise.specs.declared.Shown.{Shown}
 -- low and high pattern, and whether settled
 abbrev pub show_answer : Result Shown Refusal → Result (ℕ × ℕ × Bool) ℕ
 show_answer (Ok s) = Ok (s.low, s.high, s.settled)
-show_answer (Err e) = Err (number_of e)
+show_answer (Err e) = Err (refusal_number e)
 
 abbrev pub with_state : Bool → Result (ℕ × ℕ) ℕ → Result (ℕ × ℕ × Bool) ℕ
 with_state b (Ok p) = Ok (p.0, p.1, b)

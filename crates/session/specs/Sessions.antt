@@ -3,7 +3,7 @@ use Rattle.std.specs.Prelude.{◌≡◌, ℕ, Bool, cond, List, [], ◌∷◌, �
 use Rattle.catalogue.specs.declared.types.Kind.{Kind}
 use Rattle.catalogue.specs.declared.types.Refusal.{Refusal}
 use Rattle.catalogue.specs.Meanings.{Meaning}
-use Rattle.catalogue.specs.Refusals.{number_of}
+use Rattle.catalogue.specs.Refusals.{refusal_number}
 use Rattle.binary32.specs.Binary32.{binary}
 use Rattle.counters.specs.Counters.{counter}
 use Rattle.sheet.specs.declared.lines.DrawnLine.{DrawnLine}
@@ -50,7 +50,7 @@ paired_or (Err e) = refused e
 -- what was answered, or the refusal
 abbrev pub reply_or : Result Answer Refusal → Reply
 reply_or (Ok a) = reply_of a
-reply_or (Err e) = refused (number_of e)
+reply_or (Err e) = refused (refusal_number e)
 
 -- what a line of a script is answered; one that stands for no command is unreadable
 abbrev pub replied : Meaning → Option Command → Table → Reply

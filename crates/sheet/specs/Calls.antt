@@ -6,7 +6,7 @@ use Rattle.catalogue.specs.declared.types.Refusal.{Refusal}
 use Rattle.catalogue.specs.declared.types.Refusal.TheVariants.{NoLineThere}
 use Rattle.catalogue.specs.Meanings.{Meaning}
 use Rattle.catalogue.specs.Partners.{SomeOf}
-use Rattle.catalogue.specs.Refusals.{number_of}
+use Rattle.catalogue.specs.Refusals.{refusal_number}
 use Rattle.sheet.specs.declared.lines.CheckedLine.{CheckedLine}
 use Rattle.sheet.specs.declared.lines.Line.{Line}
 use Rattle.sheet.specs.declared.table.Outcome.{Outcome}
@@ -40,7 +40,7 @@ limit_table m r (Err e) t = t
 
 abbrev pub enter_answer : Result (Unit {0}) (Refusal × CheckedLine) → Result (Unit {0}) (ℕ × CheckedLine)
 enter_answer (Ok x) = Ok x
-enter_answer (Err e) = Err (number_of e.0, e.1)
+enter_answer (Err e) = Err (refusal_number e.0, e.1)
 
 abbrev pub enter_asked : ℕ → CheckedLine → Table → Result (Unit {0}) (ℕ × CheckedLine)
 enter_asked n l t = cond (nat_lt 63 n) (Err (7, l)) (cond (has t.standing n) (Err (6, l)) (Ok tt))
@@ -100,7 +100,7 @@ run_asked a = (ended_in a.table.state, a.steps)
 
 abbrev pub settle_answer : Result (Outcome × ℕ) Refusal → Result (ℕ × ℕ) ℕ
 settle_answer (Ok p) = Ok (run_answer p)
-settle_answer (Err e) = Err (number_of e)
+settle_answer (Err e) = Err (refusal_number e)
 
 -- steps in words: at most the budget; none at rest; and the budget is spent where the table is left open
 pub record Steps (budget : ℕ) (t : Table) (a : Settling) : Type 0 where
@@ -132,7 +132,7 @@ is_settled Void = false
 -- a look is refused with 9 on a void sheet, and has a property otherwise
 abbrev pub look_answer : {A : Type 0} → Result A Refusal → (A → Type 0) → State → Type 0
 look_answer (Ok l) P s = P l × (is_void s ≡ false)
-look_answer (Err e) P s = (number_of e ≡ 9) × (is_void s ≡ true)
+look_answer (Err e) P s = (refusal_number e ≡ 9) × (is_void s ≡ true)
 
 abbrev pub shown : ℕ → Table → Result Range ℕ
 shown r t = cond (nat_lt 31 r) (Err 1) (Ok (range_at t r))

@@ -3,7 +3,7 @@ use Rattle.std.specs.Prelude.{ℕ, cond, ◌||◌, Some, None, Ok, Err, Option, 
 use Rattle.catalogue.specs.declared.types.Kind.{Kind}
 use Rattle.catalogue.specs.declared.types.Refusal.{Refusal}
 use Rattle.catalogue.specs.Numbers.{kind_number, kind_of}
-use Rattle.catalogue.specs.Refusals.{number_of}
+use Rattle.catalogue.specs.Refusals.{refusal_number}
 use Rattle.sheet.specs.declared.lines.CheckedLine.{CheckedLine}
 use Rattle.sheet.specs.declared.lines.DrawnLine.{DrawnLine}
 use Rattle.sheet.specs.declared.lines.Line.{Line}
@@ -23,7 +23,7 @@ checked d = checked_kind (kind_of d.kind) d
 -- an answer of the check, with what the checked line says and its refusal by number
 abbrev pub check_answer : Result CheckedLine Refusal → Result Line ℕ
 check_answer (Ok l) = Ok l.line
-check_answer (Err e) = Err (number_of e)
+check_answer (Err e) = Err (refusal_number e)
 
 -- a line as a row of plain numbers, and a row as a drawn line
 abbrev pub row_of : Line → Row

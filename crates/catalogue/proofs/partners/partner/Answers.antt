@@ -1,3 +1,4 @@
+-- `partner` computes as the definition does, and that is what the words say (Found).
 use Rattle.std.proofs.Common.{◌≡◌, sym, subst, rules}
 use Rattle.catalogue.specs.Operations.{allowed}
 use Rattle.catalogue.specs.Partners.{SomeOf, partnered}

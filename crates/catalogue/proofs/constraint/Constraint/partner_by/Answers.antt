@@ -1,3 +1,4 @@
+-- `partner_by` compares a result with z as words of 32 bits, as the definition compares two ranks (Allowed).
 use Rattle.std.proofs.Common.{w32, FitsSigned, rules}
 use Rattle.catalogue.proofs.Allowed.{equal_words}
 use Rattle.catalogue.proofs.constraint.Constraint.partner_by.Goals as goal

@@ -1,3 +1,4 @@
+-- `results` keeps its two ends in 32 bits, so they are those of the definition.
 use Rattle.std.proofs.Common.{w32, FitsSigned, rules}
 use Rattle.std.proofs.lemmas.Int.{to_z-of_z}
 use Rattle.catalogue.proofs.constraint.Constraint.results.Goals as goal

@@ -1,3 +1,4 @@
+-- `distance` finds the first that passes, since all before one that fails fail too (Rising, Firsts).
 use Rattle.std.proofs.Common.{◌<◌, ◌≤◌, sym, arith, w32, rules}
 use Rattle.std.proofs.lemmas.Int.{to_z-of_z}
 use Rattle.catalogue.specs.Search.{rises}

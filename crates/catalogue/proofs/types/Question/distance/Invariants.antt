@@ -1,3 +1,4 @@
+-- The loop of `distance` keeps this: what lies before `low` fails, and `high` passes unless it is `n`.
 use Rattle.std.proofs.Common.{◌≡◌, ℕ, ◌-◌, ◌<◌, ◌≤◌, Bool, true, false}
 use Rattle.catalogue.specs.Search.{passes, moved, rises}
 use Rattle.catalogue.proofs.types.Question.distance.Given as goal

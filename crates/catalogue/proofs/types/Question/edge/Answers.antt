@@ -1,3 +1,4 @@
+-- `edge` asks about ranks of 32 bits only, and gives the first that passes, or none (Edges).
 use Rattle.std.proofs.Common.{◌≡◌, ◌^◌, ◌<◌, not, Some, None, sym, ap, ◌∙◌, subst, w32, FitsSigned, rules}
 use Rattle.std.proofs.lemmas.Int.{to_z-of_z}
 use Rattle.catalogue.specs.Ranges.{extent}

@@ -1,3 +1,4 @@
+-- `passes` compares a bound of 32 bits with a result of 32 bits, as the definition compares two ranks (Asking).
 use Rattle.std.proofs.Common.{w32, SFits, rules}
 use Rattle.std.proofs.lemmas.Int.{to_z-of_z}
 use Rattle.catalogue.proofs.Asking.{at_least, at_most}
