@@ -8,6 +8,7 @@ use Rattle.binary32.specs.declared.types.Rest.{Rest}
 use Rattle.binary32.specs.declared.types.Rest.TheVariants.{Exact, BelowMiddle, Middle, AboveMiddle}
 use Rattle.binary32.specs.Units.{with_sign}
 use Rattle.binary32.specs.Computed.{floor_of, rest_of, toward_zero, from_zero, to_nearest, magnitude_by, rounded}
+use Rattle.binary32.specs.Growing.{neg_le, pos_le}
 
 toward_nearest : (t : ℕ) (r : Rest) → toward_zero t r ≤ to_nearest t r
 toward_nearest t Exact = omega arith
@@ -24,35 +25,29 @@ nearest_from t AboveMiddle = omega arith
 toward_from : (t : ℕ) (r : Rest) → toward_zero t r ≤ from_zero t r
 toward_from t r = omega (arith, toward_nearest t r, nearest_from t r)
 
-plus_le : (a b : ℕ) → a ≤ b → pos a ≤ℤ pos b
-plus_le a b h = omega (arith, ints)
-
-minus_le : (a b : ℕ) → b ≤ a → neg_ℤ (pos a) ≤ℤ neg_ℤ (pos b)
-minus_le a b h = omega (arith, ints)
-
 alike : (v : ℤ) → v ≤ℤ v
 alike v = omega (arith, ints)
 
 -- rounding down gives the least rank, rounding up the greatest
 pub down_least : (b : Bool) (t : ℕ) (r : Rest) (m : Mode) → with_sign b (magnitude_by Down b t r) ≤ℤ with_sign b (magnitude_by m b t r)
-down_least true t r Nearest = minus_le _ _ (nearest_from t r)
-down_least true t r Up = minus_le _ _ (toward_from t r)
+down_least true t r Nearest = neg_le _ _ (nearest_from t r)
+down_least true t r Up = neg_le _ _ (toward_from t r)
 down_least true t r Down = alike _
-down_least true t r TowardZero = minus_le _ _ (toward_from t r)
-down_least false t r Nearest = plus_le _ _ (toward_nearest t r)
-down_least false t r Up = plus_le _ _ (toward_from t r)
+down_least true t r TowardZero = neg_le _ _ (toward_from t r)
+down_least false t r Nearest = pos_le _ _ (toward_nearest t r)
+down_least false t r Up = pos_le _ _ (toward_from t r)
 down_least false t r Down = alike _
 down_least false t r TowardZero = alike _
 
 pub up_greatest : (b : Bool) (t : ℕ) (r : Rest) (m : Mode) → with_sign b (magnitude_by m b t r) ≤ℤ with_sign b (magnitude_by Up b t r)
-up_greatest true t r Nearest = minus_le _ _ (toward_nearest t r)
+up_greatest true t r Nearest = neg_le _ _ (toward_nearest t r)
 up_greatest true t r Up = alike _
-up_greatest true t r Down = minus_le _ _ (toward_from t r)
+up_greatest true t r Down = neg_le _ _ (toward_from t r)
 up_greatest true t r TowardZero = alike _
-up_greatest false t r Nearest = plus_le _ _ (nearest_from t r)
+up_greatest false t r Nearest = pos_le _ _ (nearest_from t r)
 up_greatest false t r Up = alike _
-up_greatest false t r Down = plus_le _ _ (toward_from t r)
-up_greatest false t r TowardZero = plus_le _ _ (toward_from t r)
+up_greatest false t r Down = pos_le _ _ (toward_from t r)
+up_greatest false t r TowardZero = pos_le _ _ (toward_from t r)
 
 -- the same of the ranks that are computed
 pub down_below : (m : Mode) (e : ℤ) → rounded Down e ≤ℤ rounded m e

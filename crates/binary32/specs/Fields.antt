@@ -5,7 +5,7 @@ use Rattle.std.proofs.lemmas.Int.{ints}
 use Rattle.std.proofs.lemmas.Bool.{cases_lt, cond_both, cond-false, eqb-true, eqb-false, eq-eqb, ne_eqb}
 use Rattle.binary32.specs.Units.{in_units, units, value, beyond, with_sign, Reading}
 use Rattle.binary32.specs.Patterns.{sign_bit, exponent_field, fraction, rank_of, read, write}
-use Rattle.binary32.specs.Whole.{value_neg}
+use Rattle.binary32.specs.Growing.{value_neg}
 
 abbrev magnitude_of : ℕ → ℕ
 magnitude_of p = exponent_field p * 2 ^ 23 + fraction p

@@ -40,7 +40,7 @@ pub record NearestToEven (e r : ℤ) : Type 0 where
   pub nearest : (s : ℤ) → Reading s → distance e r ≤ distance e s
   pub even : (s : ℤ) → Reading s → s ≢ r → distance e r ≡ distance e s → unsigned_abs r % 2 ≡ 0
 
--- from here on a magnitude overflows: halfway from the largest reading to the next power of two
+-- from here on an exact magnitude overflows: halfway from the largest reading to the next power of two
 abbrev pub overflow : ℕ
 overflow = (2 ^ 25 - 1) * 2 ^ 252
 

@@ -1,7 +1,7 @@
--- The exact sum of two ranks by sign and location, and the rank that a mode makes of it
-use Rattle.std.specs.Prelude.{◌≡◌, ℕ, zero, suc, ◌+◌, ◌-◌, ◌<◌, ◌≤◌, Bool, true, false, ◌⊎◌, ℤ, pos, negsuc, ◌+ℤ◌, neg_ℤ, unsigned_abs, refl}
+-- The exact sum of two ranks by sign and location, and the rank that a mode makes of it.
+use Rattle.std.specs.Prelude.{◌≡◌, ℕ, zero, suc, ◌+◌, ◌-◌, ◌<◌, ◌≤◌, Bool, true, false, ℤ, pos, negsuc, ◌+ℤ◌, neg_ℤ, unsigned_abs, refl}
 use Rattle.std.specs.Bool.{beq}
-use Rattle.std.proofs.Common.{sym, ap, ◌∙◌, inl, inr, arith}
+use Rattle.std.proofs.Common.{sym, ap, ◌∙◌, arith}
 use Rattle.std.proofs.Math.Dec.{leb-suc-zero}
 use Rattle.std.specs.Int.{is_negative}
 use Rattle.std.proofs.lemmas.Int.{ints}
@@ -11,7 +11,7 @@ use Rattle.binary32.specs.declared.types.ExactSum.{ExactSum}
 use Rattle.binary32.specs.declared.types.Location.{Location}
 use Rattle.binary32.specs.declared.types.Rest.{Rest}
 use Rattle.binary32.specs.declared.types.Rest.TheVariants.{Exact}
-use Rattle.binary32.specs.Units.{units, with_sign, value, beyond, Reading}
+use Rattle.binary32.specs.Units.{units, with_sign, value, beyond}
 use Rattle.binary32.specs.Locations.{Lies, LiesAt, Locates, joined}
 use Rattle.binary32.specs.Computed.{floor_of, rest_of, magnitude_by, rank_by, rounded}
 use Rattle.binary32.specs.Floors.{units_le}
@@ -40,18 +40,6 @@ sum_located x y n o a b l p q u v h c =
     let sx : n ≡ below x = p ∙ below_zero x in
     let sy : o ≡ below y = q ∙ below_zero y in
     rw sx (joins x y l h (rw (sx, sy, u, v) at c))
-
--- two ranks in either order
-abbrev Either : ℤ → ℤ → ℤ → ℤ → Type 0
-Either x y a b = ((a ≡ x) × (b ≡ y)) ⊎ ((a ≡ y) × (b ≡ x))
-
-pub pair_sum : (x y a b : ℤ) → Either x y a b → value a +ℤ value b ≡ value x +ℤ value y
-pair_sum x y a b (inl p) = let u = ap value p.0 in let v = ap value p.1 in omega (arith, ints)
-pair_sum x y a b (inr p) = let u = ap value p.0 in let v = ap value p.1 in omega (arith, ints)
-
-pub pair_reading : (x y a b : ℤ) → Either x y a b → Reading x → Reading y → unsigned_abs a < beyond
-pair_reading x y a b (inl p) h k = let u = p.0 in omega (arith, ints, h.0, h.1)
-pair_reading x y a b (inr p) h k = let u = p.0 in omega (arith, ints, k.0, k.1)
 
 -- ---- a mode's rank from a location
 

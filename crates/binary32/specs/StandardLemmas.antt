@@ -14,7 +14,7 @@ use Rattle.binary32.specs.Rounding.{RoundsUp, RoundsDown, NearestToEven, Rounds,
 use Rattle.binary32.specs.Computed.{toward_zero, from_zero, to_nearest, rounded}
 use Rattle.binary32.specs.Floors.{floor_iff, units_le, units_lt, units_low}
 use Rattle.binary32.specs.Located.{rest_lies, lies_floor, step}
-use Rattle.binary32.specs.Whole.{value_neg}
+use Rattle.binary32.specs.Growing.{value_neg}
 
 -- ---- magnitudes
 

@@ -1,4 +1,4 @@
--- What stands of the binary32 arithmetic, and the laws of its catalogue
+-- All of Theory, proved, and the laws of the arithmetic and of the catalogue.
 use Rattle.std.proofs.Common.{arith, lit<}
 use Rattle.std.specs.Prelude.{ℤ, ◌≤ℤ◌, refl}
 use Rattle.std.proofs.lemmas.Int.{ints, clamps}
@@ -18,7 +18,7 @@ use Rattle.binary32.specs.Computed.{rounded}
 use Rattle.binary32.specs.Binary32.{result_of, binary32, binary}
 use Rattle.binary32.specs.Theory.{Stands, Values, Written, Roundings}
 use Rattle.binary32.specs.Fields.{fields, read_reading, reread, rewritten}
-use Rattle.binary32.specs.Whole.{rounded_mono, value_mono}
+use Rattle.binary32.specs.Growing.{rounded_mono, value_mono}
 use Rattle.binary32.specs.StandardLemmas.{rounds, rounds_one, value_lt, reading_abs}
 use Rattle.binary32.specs.Between.{down_below, below_up}
 use Rattle.binary32.specs.Signs.{exact}

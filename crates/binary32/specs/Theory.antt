@@ -41,8 +41,8 @@ pub record Roundings : Type 0 where
   pub exact : (m : Mode) (r : ℤ) → Reading r → rounded m (value r) ≡ r
 
 -- a set of at least one mode
-abbrev pub Proper : Modes → Type 0
-Proper s = (0 < s.bits) × (s.bits < 16)
+abbrev pub SomeMode : Modes → Type 0
+SomeMode s = (0 < s.bits) × (s.bits < 16)
 
 -- the least result is that of some mode of the set, and none of the set is below it; likewise the greatest
 pub record Ends (s : Modes) (f : Mode → ℤ) : Type 0 where
@@ -74,5 +74,5 @@ pub record Stands : Type 0 where
   pub values : Values
   pub written : Written
   pub roundings : Roundings
-  pub ends : (s : Modes) (f : Mode → ℤ) → Proper s → Ends s f
+  pub ends : (s : Modes) (f : Mode → ℤ) → SomeMode s → Ends s f
   pub results : Results

@@ -5,7 +5,7 @@ ghost use Rattle.binary32.specs.Binary32.{binary as Meant, binary32 as Arithmeti
 ghost use Rattle.binary32.specs.Theory.{Stands};
 ghost use Rattle.binary32.specs.Theorems.{binary32_laws, binary_laws};
 
-use crate::patterns::{pattern_of, rank_of};
+use crate::patterns::{read, write};
 use crate::readings::{GREATEST, LEAST, Reading};
 use crate::sums::span_of;
 use catalogue::arithmetic::{Arithmetic, Readings};
@@ -69,15 +69,14 @@ impl Catalogue for Binary32 {
     ghost laws = { λ c. binary_laws };
 
     fn rank(&self, pattern: u32) -> Result<i32, Refusal> {
-        rank_of(pattern)
+        read(pattern)
     }
 
     fn pattern(&self, rank: i32) -> u32 {
-        pattern_of(rank)
+        write(rank)
     }
 
-    // Here and below one call of the one generic function: an impl for every arithmetic would need one more trait, for
-    // patterns, to save two lines in each catalogue.
+    // Here and below one call of the one generic function; why there is no blanket impl: docs/DECISIONS.md, Three traits.
     fn narrow(&self, operation: Operation, given: Triple) -> Option<Triple> {
         narrow(self, operation, given)
     }

@@ -1,3 +1,5 @@
+//! Values, ranks and the four roundings, and the catalogue binary32.
+
 #![tactic(auto)]
 
 pub mod binary32;

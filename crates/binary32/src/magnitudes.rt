@@ -55,7 +55,7 @@ fn room(width: u32, scale: u32) -> u32
 }
 
 /// What dropped bits make, by half of what the last kept bit counts.
-fn rest_of(dropped: u64, half: u64) -> Rest
+fn rest_dropped(dropped: u64, half: u64) -> Rest
     ensures { Drops dropped half result }
 {
     if dropped == 0 {
@@ -92,12 +92,13 @@ fn locate_scaled(sum: u64, scale: u32) -> Location
         let kept = sum >> dropped;
         Location {
             rank: magnitude_of(scale + dropped, kept as u32),
-            rest: rest_of(sum - shifted(kept, dropped), shifted(1, dropped - 1)),
+            rest: rest_dropped(sum - shifted(kept, dropped), shifted(1, dropped - 1)),
         }
     }
 }
 
-/// Scales further apart than this leave the smaller magnitude below a quarter of the larger one's last bit.
+/// Up to this distance of scales both significands, aligned, fit 64 bits. Beyond it the smaller magnitude is far below a
+/// quarter of the larger one's last bit, so that it only tells the side.
 const FAR: u32 = 39;
 
 /// Just above a magnitude, or just below it.

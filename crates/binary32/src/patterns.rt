@@ -12,7 +12,7 @@ const SIGN_BIT: u32 = 0x8000_0000;
 // No `TryFrom`: patterns and ranks are plain numbers, which have conversions of their own.
 
 /// The rank of a pattern, unless it is an infinity or a NaN.
-pub(crate) fn rank_of(pattern: u32) -> Result<i32, Refusal>
+pub(crate) fn read(pattern: u32) -> Result<i32, Refusal>
     ensures { numbered result ≡ rank_or_2 (Read pattern) }
 {
     let magnitude = pattern % SIGN_BIT;
@@ -24,7 +24,7 @@ pub(crate) fn rank_of(pattern: u32) -> Result<i32, Refusal>
 }
 
 /// The pattern by which a rank is written.
-pub(crate) fn pattern_of(rank: i32) -> u32
+pub(crate) fn write(rank: i32) -> u32
     ensures { result ≡ Write rank }
 {
     let reading = Reading::nearest(rank);

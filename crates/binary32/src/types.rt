@@ -7,7 +7,7 @@ pub enum Rest {
     AboveMiddle,
 }
 
-/// An exact magnitude: the greatest rank at or below it, and what is left.
+/// Where an exact magnitude lies: `rank` is the greatest magnitude of a rank at or below it, and `rest` tells what is left.
 #[derive(Clone, Copy, Debug, PartialEq, Eq)]
 pub struct Location {
     pub rank: u32,

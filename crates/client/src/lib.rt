@@ -1,3 +1,5 @@
+//! Small code that calls a sheet of counters.
+
 #![tactic(auto)]
 
 ghost use Rattle.std.specs.Prelude.{◌≡◌};

@@ -55,8 +55,7 @@ impl Catalogue for Counter {
         SCALE.pattern(rank)
     }
 
-    // Here and below one call of the one generic function: an impl for every arithmetic would need one more trait, for
-    // patterns, to save two lines in each catalogue.
+    // Here and below one call of the one generic function; why there is no blanket impl: docs/DECISIONS.md, Three traits.
     fn narrow(&self, operation: Operation, given: Triple) -> Option<Triple> {
         narrow(self, operation, given)
     }

@@ -1,3 +1,5 @@
+//! Operations that stop at an end, and the catalogue of 24-bit counters.
+
 #![tactic(auto)]
 
 pub mod counter;

@@ -15,7 +15,8 @@ pub(crate) struct Scale {
 }
 
 impl Scale {
-    /// The reading nearest to a rank. Binary32 has the like of constants; here the end is a value's.
+    /// The reading nearest to a rank. `Reading::nearest` of binary32 does the same between two constants; here the end is a
+    /// field.
     fn nearest(self, rank: i32) -> i32
         ensures value { result ≡ nearest_reading (stopping self.end) rank }
         ensures reads { Reading (stopping self.end) result }

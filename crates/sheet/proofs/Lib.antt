@@ -1,3 +1,3 @@
--- Lemmas shared by the proofs of functions: sets of places as bits, and the loop of a settle.
+-- Lemmas shared by the proofs of functions: sets of places as bits (PlaceSets), and the loop of a settle (Settles).
 pub mod PlaceSets
 pub mod Settles

@@ -15,6 +15,7 @@ use Rattle.sheet.specs.declared.table.State.{State}
 use Rattle.sheet.specs.declared.table.State.TheVariants.{Settled, Open, Void}
 use Rattle.sheet.specs.declared.table.Table.{Table}
 use Rattle.sheet.specs.Lines.{checked, drawn_of}
+use Rattle.sheet.specs.Numbers.{no_place, no_register}
 use Rattle.sheet.specs.Places.{has}
 use Rattle.sheet.specs.Rules.{limited, entered, struck, Settling, settled, at_rest, range_at, row_at}
 
@@ -26,7 +27,7 @@ limits_read (Some l) None = Err 2
 limits_read (Some l) (Some h) = cond (int_lt h l) (Err 3) (Ok record { low = l; high = h })
 
 abbrev pub limit_asked : Meaning → ℕ → ℕ → ℕ → Result Range ℕ
-limit_asked m r low high = cond (nat_lt 31 r) (Err 1) (limits_read (m.reads low) (m.reads high))
+limit_asked m r low high = cond (no_register r) (Err 1) (limits_read (m.reads low) (m.reads high))
 
 abbrev pub done : {A : Type 0} → Result A ℕ → Result (Unit {0}) ℕ
 done (Ok x) = Ok tt
@@ -43,10 +44,10 @@ enter_answer (Ok x) = Ok x
 enter_answer (Err e) = Err (refusal_number e.0, e.1)
 
 abbrev pub enter_asked : ℕ → CheckedLine → Table → Result (Unit {0}) (ℕ × CheckedLine)
-enter_asked n l t = cond (nat_lt 63 n) (Err (7, l)) (cond (has t.standing n) (Err (6, l)) (Ok tt))
+enter_asked n l t = cond (no_place n) (Err (7, l)) (cond (has t.standing n) (Err (6, l)) (Ok tt))
 
 abbrev pub line_table : Meaning → ℕ → Line → Table → Table
-line_table m n l t = cond (nat_lt 63 n || has t.standing n) t (entered m n l t)
+line_table m n l t = cond (no_place n || has t.standing n) t (entered m n l t)
 
 abbrev pub enter_table : Meaning → ℕ → CheckedLine → Table → Table
 enter_table m n l t = line_table m n l.line t
@@ -55,7 +56,7 @@ enter_table m n l t = line_table m n l.line t
 
 abbrev pub drawn_asked : ℕ → Result Line ℕ → Table → Result (Unit {0}) ℕ
 drawn_asked n (Err e) t = Err e
-drawn_asked n (Ok l) t = cond (nat_lt 63 n) (Err 7) (cond (has t.standing n) (Err 6) (Ok tt))
+drawn_asked n (Ok l) t = cond (no_place n) (Err 7) (cond (has t.standing n) (Err 6) (Ok tt))
 
 abbrev pub drawn_table : Meaning → ℕ → Result Line ℕ → Table → Table
 drawn_table m n (Err e) t = t
@@ -64,7 +65,7 @@ drawn_table m n (Ok l) t = line_table m n l t
 -- ---- strike: the place, and whether a line stands there (7)
 
 abbrev pub no_line : ℕ → Table → Bool
-no_line n t = nat_lt 63 n || not (has t.standing n)
+no_line n t = no_place n || not (has t.standing n)
 
 -- a number names a place where a line stands, or it is refused
 abbrev pub NamesLine : ℕ → Table → Result ℕ Refusal → Type 0
@@ -135,7 +136,7 @@ look_answer (Ok l) P s = P l × (is_void s ≡ false)
 look_answer (Err e) P s = (refusal_number e ≡ 9) × (is_void s ≡ true)
 
 abbrev pub shown : ℕ → Table → Result Range ℕ
-shown r t = cond (nat_lt 31 r) (Err 1) (Ok (range_at t r))
+shown r t = cond (no_register r) (Err 1) (Ok (range_at t r))
 
 -- a range by the patterns of its ends, low and then high
 abbrev pub in_patterns : Meaning → Result Range ℕ → Result (ℕ × ℕ) ℕ

@@ -1,20 +1,21 @@
 -- Drawn lines, and what the check answers.
-use Rattle.std.specs.Prelude.{ℕ, cond, ◌||◌, Some, None, Ok, Err, Option, Result, ◌==◌, nat_lt}
+use Rattle.std.specs.Prelude.{ℕ, cond, ◌||◌, Some, None, Ok, Err, Option, Result}
 use Rattle.catalogue.specs.declared.types.Kind.{Kind}
 use Rattle.catalogue.specs.declared.types.Refusal.{Refusal}
-use Rattle.catalogue.specs.Numbers.{kind_number, kind_of}
+use Rattle.catalogue.specs.Numbers.{kind_number, kind_of, no_modes}
 use Rattle.catalogue.specs.Refusals.{refusal_number}
 use Rattle.sheet.specs.declared.lines.CheckedLine.{CheckedLine}
 use Rattle.sheet.specs.declared.lines.DrawnLine.{DrawnLine}
 use Rattle.sheet.specs.declared.lines.Line.{Line}
 use Rattle.sheet.specs.declared.table.Row.{Row}
+use Rattle.sheet.specs.Numbers.{no_register}
 
 -- the line, or why it is declined: first its kind (4), then its mode set (5), then its registers (1)
 abbrev pub checked_kind : Option Kind → DrawnLine → Result Line ℕ
 checked_kind None d = Err 4
 checked_kind (Some k) d =
-    cond (d.modes == 0 || nat_lt 15 d.modes) (Err 5)
-    (cond (nat_lt 31 d.x || (nat_lt 31 d.y || nat_lt 31 d.z)) (Err 1)
+    cond (no_modes d.modes) (Err 5)
+    (cond (no_register d.x || (no_register d.y || no_register d.z)) (Err 1)
     (Ok record { operation = record { kind = k; modes = record { bits = d.modes } }; x = d.x; y = d.y; z = d.z }))
 
 abbrev pub checked : DrawnLine → Result Line ℕ

@@ -1,3 +1,5 @@
+//! Lines, rules and calls of a sheet, over any catalogue.
+
 #![tactic(auto)]
 
 mod calls;

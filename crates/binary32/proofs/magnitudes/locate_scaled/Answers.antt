@@ -51,6 +51,6 @@ pub returns-else-width-le-SIGNIFICAND_BITS : goal.returns-else-width-le-SIGNIFIC
 returns-else-width-le-SIGNIFICAND_BITS c =
     let f = wide c.args.sum c.ranges.sum.fits in
     let p : 0 < c.args.sum = omega arith in
-    let d = simp (c.shifted-else-width-le-SIGNIFICAND_BITS.ensures, c.shifted-else-width-le-SIGNIFICAND_BITS-2.ensures) at c.rest_of.ensures in
-    subst (λ (t : ℕ). Lies (c.args.sum * 2 ^ c.args.scale) t c.rest_of.result) (sym c.magnitude_of-else-width-le-SIGNIFICAND_BITS.ensures)
-    (down_lies _ _ _ f p c.if-width-le-SIGNIFICAND_BITS.false c.requires c.rest_of.result d)
+    let d = simp (c.shifted-else-width-le-SIGNIFICAND_BITS.ensures, c.shifted-else-width-le-SIGNIFICAND_BITS-2.ensures) at c.rest_dropped.ensures in
+    subst (λ (t : ℕ). Lies (c.args.sum * 2 ^ c.args.scale) t c.rest_dropped.result) (sym c.magnitude_of-else-width-le-SIGNIFICAND_BITS.ensures)
+    (down_lies _ _ _ f p c.if-width-le-SIGNIFICAND_BITS.false c.requires c.rest_dropped.result d)

@@ -1,5 +1,5 @@
 -- A difference is the exact sum with the second reading negated.
-use Rattle.binary32.specs.Whole.{value_neg}
+use Rattle.binary32.specs.Growing.{value_neg}
 use Rattle.binary32.proofs.sums.ReadingSub.sub.Goals as goal
 
 pub returns : goal.returns

@@ -1,4 +1,4 @@
--- Values of ranks rise with the ranks, and roundings never fall as the exact number grows
+-- Values of ranks rise with the ranks, and roundings never fall as the exact number grows.
 use Rattle.std.specs.Prelude.{◌≡◌, ℕ, zero, suc, ◌≤◌, Bool, true, false, ℤ, pos, negsuc, neg_ℤ, ◌≤ℤ◌, refl}
 use Rattle.std.proofs.Common.{sym, arith}
 use Rattle.std.proofs.Math.IntN.{neg_ℤ-neg_ℤ}
@@ -19,13 +19,13 @@ module _ (a b : ℕ) (le : a ≤ b) where
   magnitude_mono Down true = away_mono a b le _ _ _ _ (rest_lies a) (rest_lies b)
   magnitude_mono TowardZero s = toward_mono a b le _ _ _ _ (rest_lies a) (rest_lies b)
 
-neg_le : (x y : ℕ) → y ≤ x → neg_ℤ (pos x) ≤ℤ neg_ℤ (pos y)
+pub neg_le : (x y : ℕ) → y ≤ x → neg_ℤ (pos x) ≤ℤ neg_ℤ (pos y)
 neg_le x y h = omega (arith, ints)
 
 neg_pos : (x y : ℕ) → neg_ℤ (pos x) ≤ℤ pos y
 neg_pos x y = omega (arith, ints)
 
-pos_le : (x y : ℕ) → x ≤ y → pos x ≤ℤ pos y
+pub pos_le : (x y : ℕ) → x ≤ y → pos x ≤ℤ pos y
 pos_le x y h = omega (arith, ints)
 
 pub rounded_mono : (m : Mode) (e f : ℤ) → e ≤ℤ f → rounded m e ≤ℤ rounded m f
