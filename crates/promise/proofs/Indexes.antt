@@ -1,23 +1,16 @@
--- No call spoils the index from registers to lines.
-use Rattle.std.proofs.Common.{◌≡◌, ℕ, zero, suc, ◌<◌, Bool, true, false, ◌&&◌, ◌||◌, eqb, List, length, get_or, set, Some, None, Ok, Err, Option, Result, sym, refl, ap, ◌∙◌, subst, arith}
+-- The index of a new table, of a table with the same lines, and after a line is put at a free place.
+use Rattle.std.proofs.Common.{◌≡◌, ℕ, ◌<◌, Bool, true, false, ◌&&◌, ◌||◌, eqb, List, length, get_or, sym, refl, ap, ◌∙◌, arith}
 use Rattle.std.proofs.lemmas.List.{get_or-replicate, length-set}
-use Rattle.std.proofs.lemmas.Bool.{cond_both, eq-eqb, ne_eqb}
-use Rattle.catalogue.specs.declared.types.Range.{Range}
-use Rattle.catalogue.specs.declared.types.Triple.{Triple}
-use Rattle.catalogue.specs.Meanings.{Meaning, all_readings}
+use Rattle.std.proofs.lemmas.Bool.{eq-eqb, ne_eqb}
+use Rattle.catalogue.specs.Meanings.{Meaning}
 use Rattle.sheet.specs.declared.lines.Line.{Line}
 use Rattle.sheet.specs.declared.places.Places.{Places}
-use Rattle.sheet.specs.declared.table.Event.{Event}
-use Rattle.sheet.specs.declared.table.Event.TheVariants.{Tightened, Loosened, Entered, Struck, Step}
-use Rattle.sheet.specs.declared.table.State.{State}
-use Rattle.sheet.specs.declared.table.State.TheVariants.{Settled, Open, Void}
 use Rattle.sheet.specs.declared.table.Table.{Table}
-use Rattle.sheet.specs.Lines.{row_of, checked, drawn_of}
-use Rattle.sheet.specs.Places.{has, none, with_place, without, lowest}
+use Rattle.sheet.specs.Lines.{row_of}
+use Rattle.sheet.specs.Places.{has, none, with_place}
 use Rattle.promise.proofs.Index.{names, Indexed}
-use Rattle.sheet.specs.Rules.{no_row, row_at, naming_at, changed, cut_table, cut, or_void, then, absorbed, narrowed_by, step_line, step_at, reacted, named, placed, settled, new_table, table_of, range_at, limits_at, at_rest, after_steps, given, with_due, with_limits, limited, limit_event, entered}
+use Rattle.sheet.specs.Rules.{no_row, row_at, naming_at, named, placed, new_table}
 use Rattle.promise.proofs.Setting.{at_each}
-use Rattle.catalogue.specs.Ranges.{empty, meet, smaller}
 use Rattle.sheet.proofs.PlaceSets.{with_here, with_other, with_has, none_has}
 
 -- ---- tables with the same lines
@@ -25,12 +18,6 @@ pub record LinesStay (t u : Table) : Type 0 where
   pub rows : t.rows ≡ u.rows
   pub standing : t.standing ≡ u.standing
   pub naming : t.naming ≡ u.naming
-
-pub same_lines : (t : Table) → LinesStay t t
-same_lines t = record { rows = refl; standing = refl; naming = refl }
-
-pub lines_then : (t u v : Table) → LinesStay t u → LinesStay u v → LinesStay t v
-lines_then t u v a b = record { rows = a.rows ∙ b.rows; standing = a.standing ∙ b.standing; naming = a.naming ∙ b.naming }
 
 pub index_same : (t u : Table) → LinesStay t u → Indexed u → Indexed t
 index_same t u s i = record {
@@ -41,64 +28,6 @@ index_same t u s i = record {
       ∙ ap (λ p. has p n && names r (row_at u n)) (sym s.standing) ∙ ap (λ l. has t.standing n && names r (get_or l n no_row)) (sym s.rows);
 }
 
-cut_table_lines : (r : ℕ) (b : Range) (t : Table) → LinesStay (cut_table r b t) t
-cut_table_lines r b t = cond_both (smaller (meet (range_at t r) b) (range_at t r)) (changed r (meet (range_at t r) b) t) t (λ u. LinesStay u t) (λ _. record { rows = refl; standing = refl; naming = refl }) (λ _. same_lines t)
-
--- what a cut, if it leaves something, keeps
-abbrev Lines : Table → Option Table → Type 0
-Lines t None = Unit {0}
-Lines t (Some u) = LinesStay u t
-
-cut_lines : (r : ℕ) (b : Range) (t : Table) → Lines t (cut r b t)
-cut_lines r b t = cond_both (empty (meet (range_at t r) b)) None (Some (cut_table r b t)) (Lines t) (λ _. tt) (λ _. cut_table_lines r b t)
-
-then_lines : (t : Table) (o : Option Table) (f : Table → Option Table) → Lines t o → ((u : Table) → Lines u (f u)) → Lines t (then o f)
-then_lines t None f h k = tt
-then_lines t (Some u) f h k = on (f u) (k u)
-  where
-    on : (o : Option Table) → Lines u o → Lines t o
-    on None g = tt
-    on (Some v) g = lines_then v u t g h
-
-absorbed_lines : (l : Line) (s : Option Triple) (t : Table) → Lines t (absorbed l s t)
-absorbed_lines l None t = tt
-absorbed_lines l (Some s) t = then_lines t _ (cut l.z s.z) (then_lines t _ (cut l.y s.y) (cut_lines l.x s.x t) (λ u. cut_lines l.y s.y u)) (λ u. cut_lines l.z s.z u)
-
-or_void_lines : (t : Table) (o : Option Table) → Lines t o → LinesStay (or_void t o) t
-or_void_lines t None h = record { rows = refl; standing = refl; naming = refl }
-or_void_lines t (Some u) h = record { rows = h.rows; standing = h.standing; naming = h.naming }
-
-module _ (m : Meaning) where
-  step_line_lines : (l : Result Line ℕ) (t : Table) → LinesStay (step_line m l t) t
-  step_line_lines (Err e) t = record { rows = refl; standing = refl; naming = refl }
-  step_line_lines (Ok l) t = or_void_lines t (narrowed_by m l t) (absorbed_lines l (m.narrowed l.operation.kind l.operation.modes (given l t)) t)
-
-  step_at_lines : (o : Option ℕ) (t : Table) → LinesStay (step_at m o t) t
-  step_at_lines None t = same_lines t
-  step_at_lines (Some n) t = let s = step_line_lines (checked (drawn_of (row_at t n))) (with_due (without n t.due) t) in record { rows = s.rows; standing = s.standing; naming = s.naming }
-
-  pub reacted_lines : (s : State) (e : Event) (t : Table) → LinesStay (reacted m s e t) t
-  reacted_lines Void (Tightened r) t = same_lines t
-  reacted_lines Settled (Tightened r) t = or_void_lines t _ (cut_lines r (limits_at t r) t)
-  reacted_lines Open (Tightened r) t = or_void_lines t _ (cut_lines r (limits_at t r) t)
-  reacted_lines Void Loosened t = record { rows = refl; standing = refl; naming = refl }
-  reacted_lines Settled Loosened t = record { rows = refl; standing = refl; naming = refl }
-  reacted_lines Open Loosened t = record { rows = refl; standing = refl; naming = refl }
-  reacted_lines Void (Entered n) t = same_lines t
-  reacted_lines Settled (Entered n) t = record { rows = refl; standing = refl; naming = refl }
-  reacted_lines Open (Entered n) t = record { rows = refl; standing = refl; naming = refl }
-  reacted_lines Void Struck t = record { rows = refl; standing = refl; naming = refl }
-  reacted_lines Settled Struck t = record { rows = refl; standing = refl; naming = refl }
-  reacted_lines Open Struck t = record { rows = refl; standing = refl; naming = refl }
-  reacted_lines Void Step t = same_lines t
-  reacted_lines Settled Step t = same_lines t
-  reacted_lines Open Step t = step_at_lines (lowest t.due) t
-
-  pub settled_lines : (b : ℕ) (t : Table) → LinesStay (settled m b t).table t
-  settled_lines zero t = same_lines t
-  settled_lines (suc b) t = cond_both (at_rest t.state) record { table = t; steps = 0 } (after_steps 1 (settled m b (reacted m t.state Step t))) (λ a. LinesStay a.table t)
-      (λ _. same_lines t) (λ _. lines_then _ _ t (settled_lines b _) (reacted_lines t.state Step t))
-
 -- ---- a new table, and a line that is put at a free place
 pub new_indexed : (m : Meaning) → Indexed (new_table m)
 new_indexed m = record {
@@ -106,12 +35,6 @@ new_indexed m = record {
   registers = refl;
   agrees = λ r n hr _. ap (λ p. has p n) (get_or-replicate 32 r none none hr) ∙ none_has none refl n ∙ sym (ap (λ b. b && names r (row_at (new_table m) n)) (none_has none refl n));
 }
-
--- the table that the code makes
-pub new_made : (m : Meaning) (t : Table) (all : Range) → t ≡ table_of all → all ≡ all_readings m → (t ≡ new_table m) × Indexed t
-new_made m t all e f =
-    let same : t ≡ new_table m = e ∙ ap table_of f in
-    (same, subst Indexed (sym same) (new_indexed m))
 
 -- the line at n names r
 pub named_at : (n x : ℕ) (s : List Places) (r k : ℕ) → x < length s → has (get_or (named n x s) r none) k ≡ (has (get_or s r none) k || (eqb x r && eqb k n))
@@ -178,15 +101,3 @@ placed_indexed n l t lt reg free i =
     drop_false true b = refl
     drop_false false true = refl
     drop_false false false = refl
-
--- ---- the calls
-module _ (m : Meaning) where
-  pub limited_indexed : (r : ℕ) (b : Range) (t u : Table) → u ≡ limited m r b t → Indexed t → Indexed u
-  limited_indexed r b t u e i = subst Indexed (sym e) (index_same _ (with_limits (set t.limits r b) t) (reacted_lines m t.state (limit_event r b t) (with_limits (set t.limits r b) t))
-      (index_same _ t (record { rows = refl; standing = refl; naming = refl }) i))
-
-  pub entered_indexed : (n : ℕ) (l : Line) (t u : Table) → u ≡ entered m n l t → n < 64 → (l.x < 32) × (l.y < 32) × (l.z < 32) → has t.standing n ≡ false → Indexed t → Indexed u
-  entered_indexed n l t u e lt reg free i = subst Indexed (sym e) (index_same _ (placed n l t) (reacted_lines m t.state (Entered n) (placed n l t)) (placed_indexed n l t lt reg free i))
-
-  pub settled_indexed : (b : ℕ) (t u : Table) → u ≡ (settled m b t).table → Indexed t → Indexed u
-  settled_indexed b t u e i = subst Indexed (sym e) (index_same _ t (settled_lines m b t) i)

@@ -165,8 +165,5 @@ module _ (n : ℕ) (l : Line) (t : Table) (s : Stands t n l) where
     pub removed_shape : Shape now (removed n t)
     removed_shape = subst (Shape now) (sym removed_is) taken_shape
 
-  pub removed_indexed : Indexed t → Indexed (removed n t)
-  removed_indexed i = subst Indexed (sym removed_is) (taken_indexed i)
-
   pub removed_limits : (removed n t).limits ≡ t.limits
   removed_limits = ap (λ u. u.limits) removed_is

@@ -5,21 +5,22 @@ use Rattle.std.proofs.lemmas.Bool.{cases_eq, both_ways, le-ltb}
 use Rattle.catalogue.specs.declared.types.Triple.{Triple}
 use Rattle.catalogue.specs.Meanings.{Meaning, Laws, all_readings}
 use Rattle.catalogue.specs.Ranges.{Holds, HoldsO, Within, WithinO}
+use Rattle.catalogue.proofs.Laws.{range_same}
 use Rattle.sheet.specs.declared.lines.Line.{Line}
 use Rattle.sheet.specs.declared.table.State.{State}
 use Rattle.sheet.specs.declared.table.State.TheVariants.{Settled, Open, Void}
 use Rattle.sheet.specs.declared.table.Table.{Table}
 use Rattle.sheet.specs.Calls.{is_void}
 use Rattle.promise.specs.Histories.{Call, strike, enter, after, limits_of, line_at, HasLine}
-use Rattle.promise.specs.Promise.{Ranges, Assignment, given_to, Consistent, Inside, InLimits, Keeps, Shows, SameLines, SameLimits, Alike, Rests, Promise, ForEveryCatalogue, settles, Consequences}
+use Rattle.promise.specs.Promise.{Ranges, Assignment, given_to, Consistent, Inside, InLimits, Keeps, Shows, SameLines, SameLimits, Alike, Rests, ForEveryCatalogue, settles, Consequences}
 use Rattle.sheet.specs.Lines.{checked, drawn_of}
 use Rattle.sheet.specs.Places.{has}
 use Rattle.sheet.specs.Rules.{range_at, at_rest}
 use Rattle.promise.proofs.Declining.{called_declined}
 use Rattle.promise.proofs.Recounting.{after_sound, entering_off, entering_own, striking_off, striking_own}
 use Rattle.promise.proofs.Remade.{passing, remade}
-use Rattle.promise.proofs.Sounds.{Fixed, nowhere}
-use Rattle.promise.proofs.Unmoving.{unchanged, unmoved, within_both, within_then}
+use Rattle.promise.proofs.Sounds.{Fixed, apart}
+use Rattle.promise.proofs.Unmoving.{unchanged, unmoved, within_then}
 
 has_line : (far here : Bool) → far ≡ false → here ≡ true → (far || not here) ≡ false
 has_line far here e f = ap (λ a. a || not here) e ∙ ap not f
@@ -74,9 +75,6 @@ module _ (m : Meaning) (laws : Laws m) where
         unchanged = λ l f. unchanged m laws (range_at (after m h)) l
             (on.quiet f.place l (apart f.place (s.shape.there f.place l f.here).place) f.here (s.calm (ap at_rest e) f.place));
       }
-    where
-      apart : (k : ℕ) → k < 64 → k ≡ nowhere → ⊥
-      apart k lt i = omega arith
 
   shown_limits : (h : List Call) → (after m h).state ≡ Settled → InLimits m h (range_at (after m h))
   shown_limits h e = ((after_sound m laws h).live (ap is_void e)).within
@@ -134,10 +132,7 @@ module _ (m : Meaning) (laws : Laws m) where
       by Settled Void e f = absurd (not_both h k limits lines e f)
       by Void Settled e f = absurd (not_both k h limits_back lines_back f e)
       by Void Void e f = inl (e, f)
-      by Settled Settled e f = inr (e, f, λ r lt. within_both (range_at (after m h) r) (range_at (after m k) r) (shown_inside h k limits lines e f r lt) (shown_inside k h limits_back lines_back f e r lt))
-
-  pub promise_kept : Promise m
-  promise_kept = record { shows = shown; alike = same_rest }
+      by Settled Settled e f = inr (e, f, λ r lt. range_same (range_at (after m h) r) (range_at (after m k) r) (shown_inside h k limits lines e f r lt) (shown_inside k h limits_back lines_back f e r lt))
 
   -- what a table that a history leads to shows
   pub shows_after : (t : Table) (h : List Call) → t ≡ after m h → Shows m h t
@@ -217,5 +212,5 @@ module _ (m : Meaning) (laws : Laws m) where
     struck_and_entered = λ h bs n k l here lt free rh rk. struck_and_entered_anywhere h n k l here lt free bs rh rk;
   }
 
-pub for_every_catalogue : ForEveryCatalogue
-for_every_catalogue = promise_kept
+pub promise_kept : ForEveryCatalogue
+promise_kept m laws = record { shows = shown m laws; alike = same_rest m laws }

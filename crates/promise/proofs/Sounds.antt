@@ -1,5 +1,5 @@
 -- The invariant: what holds of the table of every sheet, by its lines and its limits.
-use Rattle.std.proofs.Common.{◌≡◌, ℕ, ◌<◌, true, false, length, Some, None, Option}
+use Rattle.std.proofs.Common.{◌≡◌, ℕ, ◌<◌, true, false, length, Some, None, Option, arith}
 use Rattle.catalogue.specs.Meanings.{Meaning, all_readings}
 use Rattle.catalogue.specs.Ranges.{Within, Proper}
 use Rattle.sheet.specs.declared.lines.Line.{Line}
@@ -57,6 +57,9 @@ pub record Live (m : Meaning) (kind : Ranges → Type 0) (top : Ranges) (at : Dr
 -- no place of a table has this number
 abbrev pub nowhere : ℕ
 nowhere = 64
+
+pub apart : (k : ℕ) → k < 64 → k ≡ nowhere → ⊥
+apart k lt e = omega arith
 
 pub record Sound (m : Meaning) (limits-to : Ranges) (at : Drawn) (t : Table) : Type 0 where
   pub shape : Shape at t

@@ -1,5 +1,5 @@
 -- A step keeps a table sound, and so does a settle.
-use Rattle.std.proofs.Common.{◌≡◌, ℕ, zero, suc, ◌<◌, true, false, length, get_or, Some, None, Ok, Option, sym, refl, ap, ◌∙◌, subst, ⊎_elim, arith}
+use Rattle.std.proofs.Common.{◌≡◌, ℕ, zero, suc, ◌<◌, true, false, length, get_or, Some, None, Ok, Option, sym, refl, ap, ◌∙◌, subst, ⊎_elim}
 use Rattle.std.proofs.lemmas.Bool.{both_ways, cases_eq, cond_both}
 use Rattle.catalogue.specs.declared.types.Range.{Range}
 use Rattle.catalogue.specs.declared.types.Triple.{Triple}
@@ -20,7 +20,7 @@ use Rattle.promise.proofs.Cutting.{shape_same, cut_live, cut_none, cut_self, cut
 use Rattle.sheet.proofs.PlaceSets.{without_here, without_other, lowest_in}
 use Rattle.promise.proofs.Remade.{Passes, passing, remade}
 use Rattle.promise.proofs.Resting.{rested_sound, voided_sound}
-use Rattle.promise.proofs.Sounds.{Drawn, Fixed, Shape, Limited, Live, Sound, nowhere}
+use Rattle.promise.proofs.Sounds.{Drawn, Fixed, Shape, Limited, Live, Sound, apart}
 use Rattle.promise.proofs.Unmoving.{Unmoved, Stays, within_some}
 
 -- the line that stands at a place
@@ -158,9 +158,6 @@ module _ (m : Meaning) (laws : Laws m) (limits-to : Ranges) (at : Drawn) where
           within = on.within;
           quiet = λ k l ne e d. on.quiet k l (λ f. apart k (on.shape.there k l e).place f) e (sym (without_other n t.due k ne) ∙ d);
         }
-      where
-        apart : (k : ℕ) → k < 64 → k ≡ nowhere → ⊥
-        apart k lt e = omega arith
 
     line_sound : Good (step_line m (checked (drawn_of (row_at t n))) waiting)
     line_sound =

@@ -1,5 +1,5 @@
 -- Ranges within ranges; and that a line leaves ranges unchanged exactly if they lie within what it narrows them to.
-use Rattle.std.proofs.Common.{◌≡◌, ℕ, Bool, true, false, eqb, ℤ, Some, None, Option, sym, refl, ap, ◌∙◌, subst, ⊎_elim, arith}
+use Rattle.std.proofs.Common.{◌≡◌, ℕ, Bool, true, false, eqb, Some, None, Option, sym, refl, ap, ◌∙◌, subst, ⊎_elim, arith}
 use lib.Signed.{lt_z}
 use Rattle.std.specs.Int.{int_max, int_min}
 use Rattle.std.proofs.lemmas.Int.{ints, clamps}
@@ -8,6 +8,7 @@ use Rattle.catalogue.specs.declared.types.Range.{Range}
 use Rattle.catalogue.specs.declared.types.Triple.{Triple}
 use Rattle.catalogue.specs.Meanings.{Meaning, Laws}
 use Rattle.catalogue.specs.Ranges.{Proper, Within, Within3, WithinO, empty, meet, smaller}
+use Rattle.catalogue.proofs.Laws.{range_same}
 use Rattle.sheet.specs.declared.lines.Line.{Line}
 use Rattle.promise.specs.Promise.{Ranges, given_to, common_if, gets, Unchanged}
 use Rattle.promise.proofs.Remade.{Passes}
@@ -18,13 +19,6 @@ within_self a = (omega (arith, ints), omega (arith, ints))
 
 pub within_then : (a b c : Range) → Within a b → Within b c → Within a c
 within_then a b c h k = (omega (arith, ints), omega (arith, ints))
-
-pub within_both : (a b : Range) → Within a b → Within b a → a ≡ b
-within_both a b h k =
-    let low : a.low ≡ b.low = omega (arith, ints) in
-    let high : a.high ≡ b.high = omega (arith, ints) in
-    let made : ℤ → ℤ → Range = λ v w. record { low = v; high = w } in
-    ap (λ v. made v a.high) low ∙ ap (made b.low) high
 
 pub within_meet : (s a b : Range) → Within s a → Within s b → Within s (meet a b)
 within_meet s a b h k = (omega (arith, ints, clamps), omega (arith, ints, clamps))
@@ -68,7 +62,7 @@ unmoved_same m σ τ l ex ey ez h =
 
 -- what a register gets from one result
 meet_same : (a b : Range) → a ≡ b → meet a b ≡ b
-meet_same a b e = within_both (meet a b) b (meet_right a b) (within_meet b a b (subst (Within b) (sym e) (within_self b)) (within_self b))
+meet_same a b e = range_same (meet a b) b (meet_right a b) (within_meet b a b (subst (Within b) (sym e) (within_self b)) (within_self b))
 
 common_same : (σ : Ranges) (r q : ℕ) (a : Range) → a ≡ σ r → common_if (eqb r q) a (σ q) ≡ σ q
 common_same σ r q a e = ⊎_elim
@@ -94,9 +88,9 @@ module _ (m : Meaning) (laws : Laws m) (σ : Ranges) (l : Line) where
         results = s;
         narrowed = e;
         same = λ q _.
-            let ex = common_same σ l.x q s.x (within_both s.x (σ l.x) i.0 u.0) in
-            let ey = common_same σ l.y q s.y (within_both s.y (σ l.y) i.1 u.1) in
-            let ez = common_same σ l.z q s.z (within_both s.z (σ l.z) i.2 u.2) in
+            let ex = common_same σ l.x q s.x (range_same s.x (σ l.x) i.0 u.0) in
+            let ey = common_same σ l.y q s.y (range_same s.y (σ l.y) i.1 u.1) in
+            let ez = common_same σ l.z q s.z (range_same s.z (σ l.z) i.2 u.2) in
             ap (λ v. common_if (eqb l.z q) s.z (common_if (eqb l.y q) s.y v)) ex ∙ ap (common_if (eqb l.z q) s.z) ey ∙ ez;
       }
 

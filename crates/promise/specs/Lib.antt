@@ -1,4 +1,5 @@
--- What a sheet shows after any list of calls: Shown is the answer, Histories the lists of calls, and Promise what holds after each.
+-- What a sheet shows after any list of calls. Read from the top: Shown is the answer, Histories the lists of calls, and Promise what
+-- holds after each.
 pub mod Shown
 pub mod Histories
 pub mod Promise

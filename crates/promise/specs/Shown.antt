@@ -12,9 +12,9 @@ abbrev pub show_answer : Result Shown Refusal → Result (ℕ × ℕ × Bool) �
 show_answer (Ok s) = Ok (s.low, s.high, s.settled)
 show_answer (Err e) = Err (refusal_number e)
 
-abbrev pub with_state : Bool → Result (ℕ × ℕ) ℕ → Result (ℕ × ℕ × Bool) ℕ
-with_state b (Ok p) = Ok (p.0, p.1, b)
-with_state b (Err e) = Err e
+abbrev pub and_settled : Bool → Result (ℕ × ℕ) ℕ → Result (ℕ × ℕ × Bool) ℕ
+and_settled b (Ok p) = Ok (p.0, p.1, b)
+and_settled b (Err e) = Err e
 
 abbrev pub show_asked : Meaning → ℕ → Table → Result (ℕ × ℕ × Bool) ℕ
-show_asked m r t = cond (is_void t.state) (Err 9) (with_state (is_settled t.state) (in_patterns m (shown r t)))
+show_asked m r t = cond (is_void t.state) (Err 9) (and_settled (is_settled t.state) (in_patterns m (shown r t)))

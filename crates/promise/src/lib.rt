@@ -19,8 +19,8 @@ pub struct Shown {
     pub settled: bool,
 }
 
-/// What a sheet shows of a register. Apart from `show`, whose clauses say what follows from it: in one function the
-/// answers are no fewer, and each has all the clauses to show.
+/// What a sheet shows of a register. A function of its own, so that the proof of `show` has only the clauses about the
+/// promise left.
 fn look_at<C: Catalogue>(sheet: &Sheet<C>, register: u32) -> Result<Shown, Refusal>
     ensures { show_answer result ≡ show_asked (C.meaning sheet.now.catalogue) register sheet.now.table }
 {
