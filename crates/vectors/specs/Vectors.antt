@@ -3,12 +3,13 @@ use Rattle.std.specs.Prelude.{ℕ, Bool, false, cond, ℤ, pos, neg_ℤ, Some, N
 use Rattle.catalogue.specs.declared.types.Kind.{Kind}
 use Rattle.catalogue.specs.declared.types.Mode.{Mode}
 use Rattle.catalogue.specs.Operations.{equal, nearest_reading}
+use Rattle.binary32.specs.Units.{beyond}
 use Rattle.binary32.specs.Binary32.{binary32, binary}
 
 -- an infinity lies beyond the readings; any other pattern is read as the catalogue reads it
 abbrev pub or_beyond : ℕ → Option ℤ → Option ℤ
 or_beyond p (Some r) = Some r
-or_beyond p None = cond (p == 0x7F800000) (Some (pos 2139095040)) (cond (p == 0xFF800000) (Some (neg_ℤ (pos 2139095040))) None)
+or_beyond p None = cond (p == 0x7F800000) (Some (pos beyond)) (cond (p == 0xFF800000) (Some (neg_ℤ (pos beyond))) None)
 
 abbrev pub expected : ℕ → Option ℤ
 expected p = or_beyond p (binary.reads p)

@@ -1,3 +1,4 @@
+-- `answer` carries the promise: one more call of a history (Replies, Promised).
 use Rattle.commands.specs.Commands.{command_of}
 use Rattle.promise.proofs.Promised.{promise_kept, consequences_kept}
 use Rattle.session.proofs.Replies.{leads_on}

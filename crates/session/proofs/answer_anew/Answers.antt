@@ -1,3 +1,4 @@
+-- `answer_anew` carries the promise at every line: what calls on a new sheet lead to (Replies).
 use Rattle.session.proofs.Replies.{told}
 use Rattle.session.proofs.answer_anew.Goals as goal
 

@@ -1,3 +1,4 @@
+-- `serve` writes for all bytes what it makes of the first 65,537 (Inputs).
 use Rattle.std.proofs.Common.{ap, ◌∙◌}
 use Rattle.std.proofs.lemmas.Result.{on_ok_weaker}
 use Rattle.session.specs.Sessions.{written_for}

@@ -1,3 +1,4 @@
+-- `agrees` compares a rounding with what is expected as words of 32 bits, as the definition compares two ranks (Allowed).
 use Rattle.std.proofs.Common.{w32, FitsSigned, rules}
 use Rattle.catalogue.proofs.Allowed.{equal_words}
 use Rattle.vectors.proofs.agrees.Goals as goal
