@@ -23,8 +23,8 @@ loop-low-preserved g c =
     let middle_high : c.clamp-middle.result < c.loop-low.high = search rules in
     let inv = c.loop-low.invariant in
     elim c.if-passes_at-2.branch [
-    then-passes_at-2 w ↦ rw (w.low-is, w.high-is, same) (rw same at inv.0, (λ _. rw same at (sym w.if-passes_at-2.ensures)), low_middle, omega arith)
-    | else-passes_at-2 w ↦ rw (w.low-is, w.high-is, same) ((λ j h. fail_before _ _ (stays _ (g.met.A.Arithmetic.laws _) c.args.self c.args.from c.args.n) c.clamp-middle.result (omega arith) (rw same at (sym w.if-passes_at-2.ensures)) j (omega arith)), rw same at inv.1, omega arith, inv.3)
+      | then-passes_at-2 w ↦ rw (w.low-is, w.high-is, same) (rw same at inv.0, (λ _. rw same at (sym w.if-passes_at-2.ensures)), low_middle, omega arith)
+      | else-passes_at-2 w ↦ rw (w.low-is, w.high-is, same) ((λ j h. fail_before _ _ (stays _ (g.met.A.Arithmetic.laws _) c.args.self c.args.from c.args.n) c.clamp-middle.result (omega arith) (rw same at (sym w.if-passes_at-2.ensures)) j (omega arith)), rw same at inv.1, omega arith, inv.3)
     ]
 
 pub returns-then-not-passes_at : goal.returns-then-not-passes_at
@@ -39,6 +39,6 @@ returns g c =
     let laws = stays _ (g.met.A.Arithmetic.laws _) c.args.self c.args.from c.args.n in
     let before = rw same at inv.0 in
     elim c.else-high-n.branch [
-    else-high-n-via-then-high-n+else-not-passes_at w ↦ found_first _ _ laws c.ranges.n.fits high inv.3 (rw same at (sym w.if-not-passes_at.ensures)) (λ j h. before j (omega arith))
-    | else-high-n-via-else-high-n w ↦ found_first _ _ laws c.ranges.n.fits high inv.3 (rw same at (inv.1 (omega arith))) (λ j h. before j (omega arith))
+      | else-high-n-via-then-high-n+else-not-passes_at w ↦ found_first _ _ laws c.ranges.n.fits high inv.3 (rw same at (sym w.if-not-passes_at.ensures)) (λ j h. before j (omega arith))
+      | else-high-n-via-else-high-n w ↦ found_first _ _ laws c.ranges.n.fits high inv.3 (rw same at (inv.1 (omega arith))) (λ j h. before j (omega arith))
     ]
