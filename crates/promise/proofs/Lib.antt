@@ -1,5 +1,5 @@
 -- The promise, proved from the bottom up. A list with one item replaced (Setting); the index from registers to lines (Index, Indexes);
--- a line made again from its row (Remade); ranges that a line leaves as they are (Unmoving); the invariant (Sounds), kept by cuts, steps
+-- a line made again from its row (Remade); ranges that a line leaves as they are (Unmoving, Alone); the invariant (Sounds), kept by cuts, steps
 -- and calls (Cutting, Resting, Stepping, Placing, Changing); and so after every history (Recounting, Declining, Promised).
 pub mod Setting
 pub mod Index
@@ -9,6 +9,7 @@ pub mod Unmoving
 pub mod Sounds
 pub mod Cutting
 pub mod Declining
+pub mod Alone
 pub mod Resting
 pub mod Stepping
 pub mod Placing
