@@ -18,6 +18,7 @@ use Rattle.sheet.specs.Places.{has}
 use Rattle.sheet.specs.Rules.{range_at, at_rest}
 use Rattle.promise.proofs.Declining.{called_declined}
 use Rattle.promise.proofs.Recounting.{after_sound, entering_off, entering_own, striking_off, striking_own}
+use Rattle.promise.proofs.Alone.{unchanged_alone, alone_unchanged}
 use Rattle.promise.proofs.Remade.{passing, remade}
 use Rattle.promise.proofs.Sounds.{Fixed, apart}
 use Rattle.promise.proofs.Unmoving.{unchanged, unmoved, within_then}
@@ -210,6 +211,8 @@ module _ (m : Meaning) (laws : Laws m) where
         (λ r _. settles_limits bs h r ∙ sym (settles_limits cs h r))
         (by_place (settles bs h) (settles cs h) (λ n. settles_lines bs h n ∙ sym (settles_lines cs h n)));
     struck_and_entered = λ h bs n k l here lt free rh rk. struck_and_entered_anywhere h n k l here lt free bs rh rk;
+    unchanged_step = λ l t p. unchanged_alone m laws l (passing l p) t;
+    step_unchanged = λ l t u p wide. alone_unchanged m laws l (passing l p) t wide u;
   }
 
 pub promise_kept : ForEveryCatalogue

@@ -1,5 +1,5 @@
 -- The promise about long use: what a sheet shows after every history of calls.
-use Rattle.std.specs.Prelude.{◌≡◌, ℕ, ◌<◌, Bool, true, false, ◌⊎◌, List, ◌∷◌, ◌++◌, map, ℤ, Some, None, Ok, ◌==◌, ◌≢◌}
+use Rattle.std.specs.Prelude.{◌≡◌, ℕ, ◌<◌, Bool, true, false, ◌⊎◌, List, ◌∷◌, ◌++◌, length, map, ℤ, Some, None, Ok, ◌==◌, ◌≢◌}
 use Rattle.catalogue.specs.declared.types.Range.{Range}
 use Rattle.catalogue.specs.declared.types.Triple.{Triple}
 use Rattle.catalogue.specs.Meanings.{Meaning, Laws, all_readings}
@@ -7,11 +7,11 @@ use Rattle.catalogue.specs.Ranges.{Holds, Within, Proper, meet}
 use Rattle.sheet.specs.declared.lines.Line.{Line}
 use Rattle.sheet.specs.declared.table.State.TheVariants.{Settled, Void}
 use Rattle.sheet.specs.declared.table.Table.{Table}
-use Rattle.promise.specs.Histories.{Call, settle, strike, enter, after, declines, limits_of, line_at, HasLine}
+use Rattle.promise.specs.Histories.{Call, settle, strike, enter, after, declines, limits_of, line_at, passes_check, HasLine}
 use Rattle.sheet.specs.Calls.{no_line}
 use Rattle.sheet.specs.Lines.{checked, drawn_of}
 use Rattle.sheet.specs.Places.{has}
-use Rattle.sheet.specs.Rules.{range_at, row_at, at_rest}
+use Rattle.sheet.specs.Rules.{range_at, row_at, at_rest, narrowed_by}
 
 -- ---- sets of ranges, and assignments
 
@@ -121,3 +121,6 @@ pub record Consequences (m : Meaning) : Type 0 where
   pub any_budgets : (h : List Call) (bs cs : List ℕ) → Rests m (settles bs h) → Rests m (settles cs h) → Alike (after m (settles bs h)) (after m (settles cs h))
   -- a line struck and entered again, at any free place, then settled: the sheet shows what it showed
   pub struck_and_entered : (h : List Call) (bs : List ℕ) (n k : ℕ) (l : Line) → line_at h n ≡ Some l → k < 64 → line_at (strike n ∷ h) k ≡ None → Rests m h → Rests m (settles bs (enter k l ∷ (strike n ∷ h))) → Alike (after m h) (after m (settles bs (enter k l ∷ (strike n ∷ h))))
+  -- a line leaves ranges unchanged, in the sense above, exactly if its step on a table with these ranges changes none of them
+  pub unchanged_step : (l : Line) (t : Table) → passes_check l ≡ true → ((r : ℕ) → r < 32 → Proper (range_at t r)) → Unchanged m l (range_at t) → narrowed_by m l t ≡ Some t
+  pub step_unchanged : (l : Line) (t u : Table) → passes_check l ≡ true → length t.ranges ≡ 32 → narrowed_by m l t ≡ Some u → ((r : ℕ) → r < 32 → range_at u r ≡ range_at t r) → Unchanged m l (range_at t)
