@@ -1,6 +1,6 @@
 -- The promise, proved from the bottom up. A list with one item replaced (Setting); the index from registers to lines (Index, Indexes);
--- a line made again from its row (Remade); ranges that a line leaves as they are (Unmoving, Alone); the invariant (Sounds), kept by cuts, steps
--- and calls (Cutting, Resting, Stepping, Placing, Changing); and so after every history (Recounting, Declining, Promised).
+-- a line made again from its row (Remade); ranges that a line leaves as they are (Unmoving, Alone); the invariant (Sounds), kept by cuts,
+-- steps and calls (Cutting, Resting, Stepping, Placing, Changing); and so after every history (Recounting, Declining, Promised).
 pub mod Setting
 pub mod Index
 pub mod Indexes
