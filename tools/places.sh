@@ -1,5 +1,6 @@
 #!/bin/sh
 # Lists the places that the design pass looks at: tools/places.sh [FOLDER] prints, for each point, the lines of src/ that its pattern finds.
+# The numbers, 1a to 7, are those of the points in docs/DESIGN-PASS.md.
 cd "${1:-.}" || exit 1
 show() {
     title=$1

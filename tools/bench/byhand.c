@@ -539,57 +539,63 @@ static char *put_rank(char *out, enum board board, int32_t rank)
     return out;
 }
 
+/* What a command gives beside the sheet: the steps of a settle, the range of a
+   look, and the partner, if one was found. */
+struct reply {
+    uint32_t steps;
+    struct range shown;
+    bool found;
+    int32_t y;
+};
+
+/* Reads the command in a line and carries it out; answers as the calls do. */
+static int carry_out(struct sheet *s, const unsigned char *line, struct reply *reply)
+{
+    const unsigned char *rest = line + 1;
+    uint32_t w[6];
+
+    switch (*line) {
+    case 'L': return read_words(rest, "npp", w) ? limit(s, w[0], w[1], w[2]) : UNREADABLE;
+    case 'E':
+        return read_words(rest, "nknnnn", w) ? enter(s, w[0], w[1], w[2], w[3], w[4], w[5])
+                                             : UNREADABLE;
+    case 'K': return read_words(rest, "n", w) ? strike(s, w[0]) : UNREADABLE;
+    case 'S': return read_words(rest, "n", w) ? settle(s, w[0], &reply->steps) : UNREADABLE;
+    case 'R': return read_words(rest, "n", w) ? look(s, w[0], &reply->shown) : UNREADABLE;
+    case 'P':
+        return read_words(rest, "npp", w) ? partner(s, w[0], w[1], w[2], &reply->found, &reply->y)
+                                          : UNREADABLE;
+    default: return UNREADABLE;
+    }
+}
+
+/* Writes what a command with this letter gave, on the sheet that it left. */
+static char *put_reply(char *out, const struct sheet *s, unsigned char letter,
+                       const struct reply *reply)
+{
+    switch (letter) {
+    case 'S':
+        out = put_text(out, s->is_void ? "void " : s->due ? "stopped " : "settled ");
+        return put_number(out, reply->steps);
+    case 'R':
+        out = put_rank(out, s->board, reply->shown.low);
+        out = put_rank(put_text(out, " "), s->board, reply->shown.high);
+        return put_text(out, s->due ? " open" : " settled");
+    case 'P': return reply->found ? put_rank(out, s->board, reply->y) : put_text(out, "none");
+    default: return put_text(out, "ok");
+    }
+}
+
 /* Reads the command in a line, carries it out and writes the answer. */
 static char *answer(struct sheet *s, const unsigned char *line, char *out)
 {
-    const unsigned char *rest = line + 1;
-    uint32_t w[6], steps = 0;
-    struct range shown = {0, 0};
-    bool found = false;
-    int32_t y = 0;
-    int refusal = UNREADABLE;
+    struct reply reply = {0};
+    int refusal = carry_out(s, line, &reply);
 
-    switch (*line) {
-    case 'L':
-        if (read_words(rest, "npp", w))
-            refusal = limit(s, w[0], w[1], w[2]);
-        break;
-    case 'E':
-        if (read_words(rest, "nknnnn", w))
-            refusal = enter(s, w[0], w[1], w[2], w[3], w[4], w[5]);
-        break;
-    case 'K':
-        if (read_words(rest, "n", w))
-            refusal = strike(s, w[0]);
-        break;
-    case 'S':
-        if (read_words(rest, "n", w))
-            refusal = settle(s, w[0], &steps);
-        break;
-    case 'R':
-        if (read_words(rest, "n", w))
-            refusal = look(s, w[0], &shown);
-        break;
-    case 'P':
-        if (read_words(rest, "npp", w))
-            refusal = partner(s, w[0], w[1], w[2], &found, &y);
-        break;
-    }
-
-    if (refusal != ACCEPTED) {
+    if (refusal != ACCEPTED)
         out = put_number(put_text(out, "no "), (uint32_t)refusal);
-    } else if (*line == 'S') {
-        out = put_text(out, s->is_void ? "void " : s->due ? "stopped " : "settled ");
-        out = put_number(out, steps);
-    } else if (*line == 'R') {
-        out = put_rank(out, s->board, shown.low);
-        out = put_rank(put_text(out, " "), s->board, shown.high);
-        out = put_text(out, s->due ? " open" : " settled");
-    } else if (*line == 'P') {
-        out = found ? put_rank(out, s->board, y) : put_text(out, "none");
-    } else {
-        out = put_text(out, "ok");
-    }
+    else
+        out = put_reply(out, s, *line, &reply);
     return put_text(out, "\n");
 }
 

@@ -220,7 +220,8 @@ class Driver:
         return missing + ([] if whole else ["no 10 to the whole input"])
 
 
-def main():
+def arguments():
+    """What the command line asks for; the programs that it names are there."""
     parser = argparse.ArgumentParser(description="Compares ranges with the independent model on random scripts.")
     parser.add_argument("--cases", type=int, default=10_000, help="how many scripts (10000)")
     parser.add_argument("--seed", type=int, default=1, help="a script follows from the seed and its number (1)")
@@ -241,6 +242,11 @@ def main():
             if not path.is_file():
                 parser.error(f"there is no {path}")
             setattr(options, name, path.resolve())
+    return options
+
+
+def main():
+    options = arguments()
     driver = Driver(options)
     for number in range(options.first, options.first + options.cases):
         sort, given = scripts.case(random.Random(f"{options.seed} {number}"))

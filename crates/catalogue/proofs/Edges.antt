@@ -50,7 +50,7 @@ module _ (a : Arith) (q : Question) (r : Range) where
   edge_at_once laws l h v e t =
       let f = origin (rises q) r in
       ap Some (e ∙ sym (moved_none (rises q) f))
-      ∙ ap (reached (rises q) f) (found_zero (λ i. passes a q (moved (rises q) f i)) (extent r) (stays a laws q f (extent r)) (omega (arith, ints)) (ap (passes a q) (moved_none (rises q) f ∙ sym e) ∙ sym t))
+      ∙ ap (reached (rises q) f) (found_zero (λ i. passes a q (moved (rises q) f i)) (extent r) (stays a laws q f (extent r)) (omega (arith, ints)) (t ∙ ap (passes a q) (e ∙ sym (moved_none (rises q) f))))
 
   -- what a found distance is at most
   pub found_within : ArithLaws a → (f : ℤ) (n k : ℕ) → n < 2 ^ 32 → searched f n k → k ≤ n

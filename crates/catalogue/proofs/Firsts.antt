@@ -75,17 +75,17 @@ first_unique p n (Some k) (Some j) a b = ⊎_elim (λ (e : k ≡ j). ap Some e) 
 
 -- ---- what the search has in hand on its way and where it ends
 module _ (p : ℕ → Bool) (n : ℕ) (st : Stays p n) where
-  pub fail_before : (m : ℕ) → m ≤ n → p m ≡ false → (j : ℕ) → j ≤ m → p j ≡ false
-  fail_before m mn a j h = not_passed (p j) (λ e. both_ways (p m) a (st j m h mn e))
+  pub fail_before : (m : ℕ) → m ≤ n → false ≡ p m → (j : ℕ) → j ≤ m → p j ≡ false
+  fail_before m mn a j h = not_passed (p j) (λ e. both_ways (p m) (sym a) (st j m h mn e))
 
-  pub found_first : n < 2 ^ 32 → (k : ℕ) → k ≤ n → p k ≡ true → ((j : ℕ) → j < k → p j ≡ false) → Some k ≡ first p n
-  found_first top k kn a before = first_unique p n (Some k) (first p n) (kn, a, before) (first_is p n st top)
+  pub found_first : n < 2 ^ 32 → (k : ℕ) → k ≤ n → true ≡ p k → ((j : ℕ) → j < k → p j ≡ false) → Some k ≡ first p n
+  found_first top k kn a before = first_unique p n (Some k) (first p n) (kn, sym a, before) (first_is p n st top)
 
-  pub found_zero : n < 2 ^ 32 → p 0 ≡ true → Some 0 ≡ first p n
+  pub found_zero : n < 2 ^ 32 → true ≡ p 0 → Some 0 ≡ first p n
   found_zero top a = found_first top 0 (omega arith) a (λ j h. absurd (none j h))
     where
       none : (i : ℕ) → i < 0 → ⊥
       none i lt = omega arith
 
-  pub found_none : n < 2 ^ 32 → (m : ℕ) → m ≡ n → p m ≡ false → None ≡ first p n
-  found_none top m e a = first_unique p n None (first p n) (fail_before n (omega arith) (subst (λ k. p k ≡ false) e a)) (first_is p n st top)
+  pub found_none : n < 2 ^ 32 → (m : ℕ) → m ≡ n → false ≡ p m → None ≡ first p n
+  found_none top m e a = first_unique p n None (first p n) (fail_before n (omega arith) (subst (λ k. false ≡ p k) e a)) (first_is p n st top)

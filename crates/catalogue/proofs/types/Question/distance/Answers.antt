@@ -1,5 +1,5 @@
 -- `distance` finds the first that passes, since all before one that fails fail too (Rising, Firsts).
-use Rattle.std.proofs.Common.{◌<◌, ◌≤◌, sym, arith, w32, rules}
+use Rattle.std.proofs.Common.{◌<◌, ◌≤◌, arith, w32, rules}
 use Rattle.std.proofs.lemmas.Int.{to_z-of_z}
 use Rattle.catalogue.specs.Search.{rises}
 use Rattle.catalogue.proofs.Rising.{stays, fits_on_the_way}
@@ -9,7 +9,7 @@ use Rattle.catalogue.proofs.types.Question.distance.Goals.{then-passes_at-2, els
 
 pub returns-then-passes_at : goal.returns-then-passes_at
 returns-then-passes_at g c = found_zero _ _ (stays _ (g.met.A.Arithmetic.laws _) c.args.self c.args.from c.args.n) c.ranges.n.fits
-    (rw (to_z-of_z w32 c.args.from c.ranges.from) at (sym c.if-passes_at.ensures))
+    (rw (to_z-of_z w32 c.args.from c.ranges.from) at c.if-passes_at.ensures)
 
 pub passes_at-requires-in-loop-low : goal.passes_at-requires-in-loop-low
 passes_at-requires-in-loop-low g c =
@@ -23,13 +23,13 @@ loop-low-preserved g c =
     let middle_high : c.clamp-middle.result < c.loop-low.high = search rules in
     let inv = c.loop-low.invariant in
     elim c.if-passes_at-2.branch [
-      | then-passes_at-2 w ↦ rw (w.low-is, w.high-is, same) (rw same at inv.0, (λ _. rw same at (sym w.if-passes_at-2.ensures)), low_middle, omega arith)
-      | else-passes_at-2 w ↦ rw (w.low-is, w.high-is, same) ((λ j h. fail_before _ _ (stays _ (g.met.A.Arithmetic.laws _) c.args.self c.args.from c.args.n) c.clamp-middle.result (omega arith) (rw same at (sym w.if-passes_at-2.ensures)) j (omega arith)), rw same at inv.1, omega arith, inv.3)
+      | then-passes_at-2 w ↦ rw (w.low-is, w.high-is, same) (rw same at inv.0, (λ _. rw same at w.if-passes_at-2.ensures), low_middle, omega arith)
+      | else-passes_at-2 w ↦ rw (w.low-is, w.high-is, same) ((λ j h. fail_before _ _ (stays _ (g.met.A.Arithmetic.laws _) c.args.self c.args.from c.args.n) c.clamp-middle.result (omega arith) (rw same at w.if-passes_at-2.ensures) j (omega arith)), rw same at inv.1, omega arith, inv.3)
     ]
 
 pub returns-then-not-passes_at : goal.returns-then-not-passes_at
 returns-then-not-passes_at g c = found_none _ _ (stays _ (g.met.A.Arithmetic.laws _) c.args.self c.args.from c.args.n) c.ranges.n.fits
-    c.loop-low.high c.if-high-n.true (rw (to_z-of_z w32 c.args.from c.ranges.from) at (sym c.if-not-passes_at.ensures))
+    c.loop-low.high c.if-high-n.true (rw (to_z-of_z w32 c.args.from c.ranges.from) at c.if-not-passes_at.ensures)
 
 pub returns : goal.returns
 returns g c =
@@ -39,6 +39,6 @@ returns g c =
     let laws = stays _ (g.met.A.Arithmetic.laws _) c.args.self c.args.from c.args.n in
     let before = rw same at inv.0 in
     elim c.else-high-n.branch [
-      | else-high-n-via-then-high-n+else-not-passes_at w ↦ found_first _ _ laws c.ranges.n.fits high inv.3 (rw same at (sym w.if-not-passes_at.ensures)) (λ j h. before j (omega arith))
+      | else-high-n-via-then-high-n+else-not-passes_at w ↦ found_first _ _ laws c.ranges.n.fits high inv.3 (rw same at w.if-not-passes_at.ensures) (λ j h. before j (omega arith))
       | else-high-n-via-else-high-n w ↦ found_first _ _ laws c.ranges.n.fits high inv.3 (rw same at (inv.1 (omega arith))) (λ j h. before j (omega arith))
     ]
