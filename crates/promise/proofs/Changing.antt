@@ -18,7 +18,7 @@ use Rattle.sheet.specs.Places.{has, with_place}
 use Rattle.promise.specs.Promise.{Ranges}
 use Rattle.sheet.specs.Rules.{no_range, range_at, limits_at, cut_table, cut_to_limits, or_void, with_limits, limited, placed, entered, removed, struck, reacted, made_due, returned}
 use Rattle.promise.proofs.Cutting.{shape_same, cut_live, cut_none, cut_within, cut_limits}
-use Rattle.sheet.proofs.PlaceSets.{with_here, with_other}
+use Rattle.sheet.proofs.PlaceSets.{not_none, with_here, with_other}
 use Rattle.promise.proofs.Placing.{placed_shape, removed_shape, removed_limits}
 use Rattle.promise.proofs.Resting.{rested_sound, voided_sound, returned_sound}
 use Rattle.promise.proofs.Setting.{at_each}
@@ -68,6 +68,7 @@ module _ (m : Meaning) (old new : Ranges) (at : Drawn) (t : Table) (sound : Soun
       limited = reset_limited;
       wide = sound.wide;
       calm = sound.calm;
+      busy = sound.busy;
       live = λ h. absurd (both_ways (is_void t.state) h v);
       void = λ h σ c. sound.void h σ (back σ c);
     }
@@ -144,6 +145,7 @@ module _ (m : Meaning) (limits-to : Ranges) (at now : Drawn) (t : Table) (sound 
     limited = limited_same m limits-to t more refl sound.limited;
     wide = sound.wide;
     calm = sound.calm;
+    busy = sound.busy;
     live = λ h. absurd (both_ways (is_void t.state) h v);
     void = λ h σ c. sound.void h σ (without_it σ c);
   }
@@ -158,6 +160,7 @@ module _ (m : Meaning) (limits-to : Ranges) (at now : Drawn) (t : Table) (sound 
         limited = limited_same m limits-to t u refl sound.limited;
         wide = sound.wide;
         calm = λ h. absurd (both_ways false refl h);
+        busy = λ _. not_none (with_place n t.due) n (with_here n t.due);
         live = λ _. record {
           wide = sound.wide;
           shape = shape;

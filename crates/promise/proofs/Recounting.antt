@@ -14,7 +14,7 @@ use Rattle.sheet.specs.Calls.{limits_read, limit_asked, limit_table, line_table,
 use Rattle.promise.specs.Histories.{Call, limit, enter, strike, settle, look, partner, passes_check, after, limits_got, limits_of, line_at}
 use Rattle.sheet.specs.Places.{has, none}
 use Rattle.promise.specs.Promise.{Ranges}
-use Rattle.sheet.specs.Rules.{no_range, new_table, entered, struck, settled}
+use Rattle.sheet.specs.Rules.{at_rest, no_range, new_table, entered, struck, settled}
 use Rattle.promise.proofs.Changing.{limited_sound, entered_sound, struck_sound}
 use Rattle.promise.proofs.Indexes.{new_indexed}
 use Rattle.sheet.proofs.PlaceSets.{none_has}
@@ -47,6 +47,7 @@ module _ (m : Meaning) (laws : Laws m) where
     limited = record { long = refl; same = λ r lt. new_at r lt; proper = λ _ _. laws.ends; readings = λ _ _. within_self (all_readings m) };
     wide = refl;
     calm = λ _. none_has none refl;
+    busy = λ h. absurd (both_ways true (ap at_rest h) refl);
     live = λ _. record {
       wide = refl;
       shape = new_shape;

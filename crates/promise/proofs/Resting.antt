@@ -1,5 +1,5 @@
 -- Tables put to rest, made void, and returned to their limits are sound.
-use Rattle.std.proofs.Common.{◌≡◌, Bool, true, false, cond, sym, refl, subst}
+use Rattle.std.proofs.Common.{◌≡◌, Bool, true, false, cond, sym, refl, ap, subst}
 use Rattle.std.proofs.lemmas.Bool.{both_ways}
 use Rattle.catalogue.specs.Meanings.{Meaning}
 use Rattle.catalogue.specs.Ranges.{Within, Proper}
@@ -22,6 +22,10 @@ rested_calm : (b : Bool) → at_rest (cond b Settled Open) ≡ true → b ≡ tr
 rested_calm true h = refl
 rested_calm false h = absurd (both_ways false refl h)
 
+rested_busy : (b : Bool) → cond b Settled Open ≡ Open → b ≡ false
+rested_busy true h = absurd (both_ways true (ap at_rest h) refl)
+rested_busy false h = refl
+
 module _ (m : Meaning) (limits-to : Ranges) (at : Drawn) where
   pub rested_sound : (t : Table) → Limited m limits-to t → Live m (Fixed m limits-to at) limits-to at nowhere t → Sound m limits-to at (rested t)
   rested_sound t lim on =
@@ -31,6 +35,7 @@ module _ (m : Meaning) (limits-to : Ranges) (at : Drawn) where
         limited = record { long = lim.long; same = lim.same; proper = lim.proper; readings = lim.readings };
         wide = on.wide;
         calm = λ h. none_has t.due (rested_calm (is_none t.due) h);
+        busy = λ h. rested_busy (is_none t.due) h;
         live = λ _. record { wide = on.wide; shape = shape; due = on.due; kept = on.kept; proper = on.proper; within = on.within; quiet = on.quiet };
         void = λ h. absurd (both_ways (is_void (cond (is_none t.due) Settled Open)) (rested_live (is_none t.due)) h);
       }
@@ -41,6 +46,7 @@ module _ (m : Meaning) (limits-to : Ranges) (at : Drawn) where
     limited = record { long = lim.long; same = lim.same; proper = lim.proper; readings = lim.readings };
     wide = lim.long;
     calm = λ _. none_has none refl;
+    busy = λ h. absurd (both_ways true (ap at_rest h) refl);
     live = λ h. absurd (both_ways true h refl);
     void = λ _. never;
   }

@@ -3,12 +3,13 @@ use Rattle.std.proofs.Common.{◌≡◌, ℕ, ◌<◌, true, false, length, Some
 use Rattle.catalogue.specs.Meanings.{Meaning, all_readings}
 use Rattle.catalogue.specs.Ranges.{Within, Proper}
 use Rattle.sheet.specs.declared.lines.Line.{Line}
+use Rattle.sheet.specs.declared.table.State.TheVariants.{Open}
 use Rattle.sheet.specs.declared.table.Table.{Table}
 use Rattle.sheet.specs.Calls.{is_void}
 use Rattle.promise.specs.Histories.{passes_check}
 use Rattle.promise.proofs.Index.{Indexed}
 use Rattle.sheet.specs.Lines.{row_of}
-use Rattle.sheet.specs.Places.{has}
+use Rattle.sheet.specs.Places.{has, is_none}
 use Rattle.promise.specs.Promise.{Ranges, Inside}
 use Rattle.sheet.specs.Rules.{row_at, range_at, limits_at, naming_at, at_rest}
 use Rattle.promise.proofs.Unmoving.{Unmoved}
@@ -66,5 +67,6 @@ pub record Sound (m : Meaning) (limits-to : Ranges) (at : Drawn) (t : Table) : T
   pub limited : Limited m limits-to t
   pub wide : length t.ranges ≡ 32
   pub calm : at_rest t.state ≡ true → (k : ℕ) → has t.due k ≡ false
+  pub busy : t.state ≡ Open → is_none t.due ≡ false
   pub live : is_void t.state ≡ false → Live m (Fixed m limits-to at) limits-to at nowhere t
   pub void : is_void t.state ≡ true → (σ : Ranges) → Fixed m limits-to at σ → ⊥

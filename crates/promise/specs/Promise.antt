@@ -5,7 +5,7 @@ use Rattle.catalogue.specs.declared.types.Triple.{Triple}
 use Rattle.catalogue.specs.Meanings.{Meaning, Laws, all_readings}
 use Rattle.catalogue.specs.Ranges.{Holds, Within, Proper, meet}
 use Rattle.sheet.specs.declared.lines.Line.{Line}
-use Rattle.sheet.specs.declared.table.State.TheVariants.{Settled, Void}
+use Rattle.sheet.specs.declared.table.State.TheVariants.{Settled, Open, Void}
 use Rattle.sheet.specs.declared.table.Table.{Table}
 use Rattle.promise.specs.Histories.{Call, settle, strike, enter, after, declines, limits_of, line_at, passes_check, HasLine}
 use Rattle.sheet.specs.Calls.{no_line}
@@ -78,8 +78,9 @@ pub record Shows (m : Meaning) (h : List Call) (t : Table) : Type 0 where
   -- at each place it has the line that stands there by the list of calls, and no other: strike and partner go by it
   pub there : (n : ℕ) (l : Line) → line_at h n ≡ Some l → (no_line n t ≡ false) × (checked (drawn_of (row_at t n)) ≡ Ok l)
   pub free : (n : ℕ) → line_at h n ≡ None → no_line n t ≡ true
-  -- at rest, no line is due
+  -- at rest, no line is due; open, some line that stands is
   pub calm : at_rest t.state ≡ true → (n : ℕ) → has t.due n ≡ false
+  pub busy : t.state ≡ Open → (n : ℕ) × ((l : Line) × ((line_at h n ≡ Some l) × (has t.due n ≡ true)))
 
 -- ---- two sheets
 

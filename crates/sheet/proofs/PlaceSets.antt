@@ -5,7 +5,7 @@ use Rattle.std.specs.Int.Bits.{bit_xor}
 use Rattle.std.specs.Int.Count.{count_trailing_zeros}
 use Rattle.std.proofs.lemmas.Nat.{shr-shr}
 use Rattle.std.proofs.lemmas.Nat.Bits.{bit_at-lt, bit_at-pow_other, bit_at-pow_same, bit_at-trailing_zeros, bit_at-zero, bit_at_or, bit_at_xor, same_from_bits}
-use Rattle.std.proofs.lemmas.Bool.{eq-eqb, ne_eqb, eqb-true, eqb-false, cond_both, cond-true, cond-false, and_right, or_right, cases_Bool, cases_eq}
+use Rattle.std.proofs.lemmas.Bool.{eq-eqb, ne_eqb, eqb-true, eqb-false, cond_both, cond-true, cond-false, and_right, or_right, cases_Bool, cases_eq, both_ways}
 use Rattle.sheet.specs.declared.places.Places.{Places}
 use Rattle.sheet.specs.Places.{Lowest, has, with_place, without, union, is_none, lowest}
 
@@ -74,6 +74,10 @@ union_has s u k = ⊎_elim
 pub none_has : (s : Places) → is_none s ≡ true → (k : ℕ) → has s k ≡ false
 none_has s h k = has_false s k (ap (λ b. bit_at b k) (eqb-true s.bits 0 h) ∙ bit_at-zero k)
 
+-- a set that has a place is not empty
+pub not_none : (s : Places) (n : ℕ) → has s n ≡ true → is_none s ≡ false
+not_none s n h = ⊎_elim (λ e. absurd (both_ways (has s n) (none_has s e n) h)) (λ e. e) (cases_Bool (is_none s))
+
 -- a set that is not empty: the zero bits at its end tell its lowest place
 pub lowest_words : (s : Places) → is_none s ≡ false → s.bits < 2 ^ 64 → Lowest s (Some (count_trailing_zeros 64 s.bits))
 lowest_words s h below =
@@ -90,6 +94,10 @@ set_below s h =
   where
     high : (i : ℕ) → has s (64 + i) ≡ false
     high i = ⊎_elim (λ e. let lt = h (64 + i) e in absurd (omega arith)) (λ e. e) (cases_Bool (has s (64 + i)))
+
+-- a set of places below 64 that is not empty has a place
+pub some_has : (s : Places) → ((k : ℕ) → has s k ≡ true → k < 64) → is_none s ≡ false → (n : ℕ) × (has s n ≡ true)
+some_has s h e = (count_trailing_zeros 64 s.bits, (lowest_words s e (set_below s h)).1)
 
 pub lowest_in : (s : Places) (n : ℕ) → ((k : ℕ) → has s k ≡ true → k < 64) → lowest s ≡ Some n → has s n ≡ true
 lowest_in s n h e = ⊎_elim

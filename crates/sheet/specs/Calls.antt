@@ -1,6 +1,6 @@
 -- What each call of a sheet answers, and the table that it leaves. Refusals go by number.
 -- Of a call, `.._asked` is what the rules give, or the refusal; `.._answer` puts the code's answer in the same terms; `.._table` is the table that it leaves.
-use Rattle.std.specs.Prelude.{◌≡◌, ℕ, ◌≤◌, Bool, true, false, cond, not, ◌||◌, ℤ, Some, None, Ok, Err, Option, Result, ◌==◌, int_lt, nat_lt}
+use Rattle.std.specs.Prelude.{◌≡◌, ℕ, zero, suc, ◌<◌, ◌≤◌, Bool, true, false, cond, not, ◌||◌, ℤ, Some, None, Ok, Err, Option, Result, ◌==◌, int_lt, nat_lt}
 use Rattle.catalogue.specs.declared.types.Range.{Range}
 use Rattle.catalogue.specs.declared.types.Refusal.{Refusal}
 use Rattle.catalogue.specs.declared.types.Refusal.TheVariants.{NoLineThere}
@@ -9,6 +9,7 @@ use Rattle.catalogue.specs.Partners.{SomeOf}
 use Rattle.catalogue.specs.Refusals.{refusal_number}
 use Rattle.sheet.specs.declared.lines.CheckedLine.{CheckedLine}
 use Rattle.sheet.specs.declared.lines.Line.{Line}
+use Rattle.sheet.specs.declared.table.Event.TheVariants.{Step}
 use Rattle.sheet.specs.declared.table.Outcome.{Outcome}
 use Rattle.sheet.specs.declared.table.Outcome.TheVariants as outcome
 use Rattle.sheet.specs.declared.table.State.{State}
@@ -17,7 +18,7 @@ use Rattle.sheet.specs.declared.table.Table.{Table}
 use Rattle.sheet.specs.Lines.{checked, drawn_of}
 use Rattle.sheet.specs.Numbers.{no_place, no_register}
 use Rattle.sheet.specs.Places.{has}
-use Rattle.sheet.specs.Rules.{limited, entered, struck, Settling, settled, at_rest, range_at, row_at}
+use Rattle.sheet.specs.Rules.{limited, entered, struck, Settling, settled, at_rest, range_at, reacted, row_at}
 
 -- ---- limit: the register (1), the low pattern, then the high (2), their order (3)
 
@@ -103,9 +104,17 @@ abbrev pub settle_answer : Result (Outcome × ℕ) Refusal → Result (ℕ × �
 settle_answer (Ok p) = Ok (run_answer p)
 settle_answer (Err e) = Err (refusal_number e)
 
--- steps in words: at most the budget; none at rest; and the budget is spent where the table is left open
-pub record Steps (budget : ℕ) (t : Table) (a : Settling) : Type 0 where
+-- a table after so many steps, one after another
+abbrev pub stepped : Meaning → ℕ → Table → Table
+stepped m zero t = t
+stepped m (suc k) t = stepped m k (reacted m t.state Step t)
+
+-- steps in words: at most the budget; so many are made, each from a table that is not at rest; none at rest; and the budget is spent
+-- where the table is left open
+pub record Steps (m : Meaning) (budget : ℕ) (t : Table) (a : Settling) : Type 0 where
   pub within : a.steps ≤ budget
+  pub made : a.table ≡ stepped m a.steps t
+  pub awake : (k : ℕ) → k < a.steps → at_rest (stepped m k t).state ≡ false
   pub at_once : at_rest t.state ≡ true → (a.steps ≡ 0) × (a.table ≡ t)
   pub spent : a.table.state ≡ Open → a.steps ≡ budget
 

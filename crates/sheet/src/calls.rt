@@ -152,7 +152,7 @@ impl<C: Catalogue> Sheet<C> {
         ensures answer { settle_answer result ≡ settle_asked (C.meaning self.old.catalogue) budget self.old.table }
         ensures table { self.new.table ≡ settle_table (C.meaning self.old.catalogue) budget self.old.table }
         ensures catalogue { self.new.catalogue ≡ self.old.catalogue }
-        ensures words { (b : ℕ) → Steps b self.old.table (settled (C.meaning self.old.catalogue) b self.old.table) }
+        ensures words { (b : ℕ) → Steps (C.meaning self.old.catalogue) b self.old.table (settled (C.meaning self.old.catalogue) b self.old.table) }
     {
         if is_bad_budget(budget) {
             return Err(Refusal::BudgetOutOfRange);
