@@ -77,6 +77,16 @@ absorbed_left l (Some s) t u p wide e same =
     let at_x : Within (range_at u l.x) s.x = within_then (range_at u l.x) (range_at c.0 l.x) s.x (z.inside l.x) (within_then (range_at c.0 l.x) (range_at b.0 l.x) s.x (y.inside l.x) x.here) in
     (subst (λ v. Within v s.x) (same l.x p.x) at_x, subst (λ v. Within v s.y) (same l.y p.y) at_y, subst (λ v. Within v s.z) (same l.z p.z) z.here)
 
+pub absorbed_inside : (l : Line) (o : Option Triple) (t u : Table) → Passes l → length t.ranges ≡ 32 → absorbed l o t ≡ Some u → (q : ℕ) → Within (range_at u q) (range_at t q)
+absorbed_inside l None t u p wide e q = absurd cc
+absorbed_inside l (Some s) t u p wide e q =
+    let c = then_some (then (cut l.x s.x t) (cut l.y s.y)) (cut l.z s.z) u e in
+    let b = then_some (cut l.x s.x t) (cut l.y s.y) c.0 c.1 in
+    let x = cut_left l.x s.x t b.0 p.x wide b.1 in
+    let y = cut_left l.y s.y b.0 c.0 p.y x.wide b.2 in
+    let z = cut_left l.z s.z c.0 u p.z y.wide c.2 in
+    within_then (range_at u q) (range_at c.0 q) (range_at t q) (z.inside q) (within_then (range_at c.0 q) (range_at b.0 q) (range_at t q) (y.inside q) (x.inside q))
+
 -- ---- both ways, for a line that passes the check
 module _ (m : Meaning) (laws : Laws m) (l : Line) (p : Passes l) (t : Table) where
   pub unchanged_alone : ((r : ℕ) → r < 32 → Proper (range_at t r)) → Unchanged m l (range_at t) → narrowed_by m l t ≡ Some t

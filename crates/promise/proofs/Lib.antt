@@ -1,6 +1,6 @@
 -- The promise, proved from the bottom up. A list with one item replaced (Setting); the index from registers to lines (Index, Indexes);
 -- a line made again from its row (Remade); ranges that a line leaves as they are (Unmoving, Alone); the invariant (Sounds), kept by cuts,
--- steps and calls (Cutting, Resting, Stepping, Placing, Changing); and so after every history (Recounting, Declining, Promised).
+-- steps and calls (Cutting, Resting, Stepping, Placing, Changing); and so after every history (Recounting, Declining, Promised); and what a step gains (Progress).
 pub mod Setting
 pub mod Index
 pub mod Indexes
@@ -15,4 +15,5 @@ pub mod Stepping
 pub mod Placing
 pub mod Changing
 pub mod Recounting
+pub mod Progress
 pub mod Promised

@@ -20,6 +20,7 @@ use Rattle.sheet.specs.Rules.{range_at, at_rest}
 use Rattle.promise.proofs.Declining.{called_declined}
 use Rattle.promise.proofs.Recounting.{after_sound, entering_off, entering_own, striking_off, striking_own}
 use Rattle.promise.proofs.Alone.{unchanged_alone, alone_unchanged}
+use Rattle.promise.proofs.Progress.{due, step_inside, step_idle}
 use Rattle.promise.proofs.Remade.{passing, remade}
 use Rattle.promise.proofs.Stepping.{line_of}
 use Rattle.promise.proofs.Sounds.{Fixed, apart}
@@ -226,6 +227,8 @@ module _ (m : Meaning) (laws : Laws m) where
     struck_and_entered = λ h bs n k l here lt free rh rk. struck_and_entered_anywhere h n k l here lt free bs rh rk;
     unchanged_step = λ l t p. unchanged_alone m laws l (passing l p) t;
     step_unchanged = λ l t u p wide. alone_unchanged m laws l (passing l p) t wide u;
+    narrower = λ h e. step_inside m laws (limits_of m h) (line_at h) (after m h) (after_sound m laws h) e;
+    fewer = λ h e ne same. let s = after_sound m laws h in (_, (due m laws (limits_of m h) (line_at h) (after m h) s e, step_idle m laws (limits_of m h) (line_at h) (after m h) s e ne same));
   }
 
 pub promise_kept : ForEveryCatalogue
