@@ -65,6 +65,8 @@ pub record Worked : Type 0 where
   -- x + 16 = 16 allows x from B5000000 to 35800000 to nearest, and from B57FFFFF to 35FFFFFF up or down
   pub sum_to_nearest : binary.narrowed Sum nearest_alone around_sixteen ≡ Some (three (between (negative 0x35000000) (pos 0x35800000)) (from_to 0x41800000 0x41800000) (from_to 0x41800000 0x41800000))
   pub sum_up_and_down : binary.narrowed Sum up_and_down around_sixteen ≡ Some (three (between (negative 0x357FFFFF) (pos 0x35FFFFFF)) (from_to 0x41800000 0x41800000) (from_to 0x41800000 0x41800000))
+  -- 16 - y = 16 allows y from B5FFFFFF to 357FFFFF up or down
+  pub difference_up_and_down : binary.narrowed Difference up_and_down (three (from_to 0x41800000 0x41800000) (between (negative 0x3F800000) (pos 0x3F800000)) (from_to 0x41800000 0x41800000)) ≡ Some (three (from_to 0x41800000 0x41800000) (between (negative 0x35FFFFFF) (pos 0x357FFFFF)) (from_to 0x41800000 0x41800000))
   -- 1..2 less 0.5..1 is 0..1.5, of a given 0..10
   pub difference : binary.narrowed Difference nearest_alone (three (from_to 0x3F800000 0x40000000) (from_to 0x3F000000 0x3F800000) (from_to 0 0x41200000)) ≡ Some (three (from_to 0x3F800000 0x40000000) (from_to 0x3F000000 0x3F800000) (from_to 0 0x3FC00000))
   -- 16 + y = 16: there is such a y in a range that holds 0, and none in 1..2
@@ -74,6 +76,16 @@ pub record Worked : Type 0 where
   pub counter_sum : counter.narrowed Sum nearest_alone (three (from_to 0 100) (from_to 50 60) (from_to 120 200)) ≡ Some (three (from_to 60 100) (from_to 50 60) (from_to 120 160))
   -- a counter sum stops at the greatest reading
   pub counter_stop : counter.narrowed Sum nearest_alone (three (from_to 16777000 16777215) (from_to 300 400) (from_to 0 16777215)) ≡ Some (three (from_to 16777000 16777215) (from_to 300 400) (from_to 16777215 16777215))
+  -- counters 10..20 and 0..100 whose sum is 30..50: the second is from 30 - 20 to 50 - 10
+  pub counter_sum_y : counter.narrowed Sum nearest_alone (three (from_to 10 20) (from_to 0 100) (from_to 30 50)) ≡ Some (three (from_to 10 20) (from_to 10 40) (from_to 30 50))
+  -- 0..30 less 5..15 is 3..8: the first is from 3 + 5 to 8 + 15
+  pub counter_difference_x : counter.narrowed Difference nearest_alone (three (from_to 0 30) (from_to 5 15) (from_to 3 8)) ≡ Some (three (from_to 8 23) (from_to 5 15) (from_to 3 8))
+  -- 20..30 less 0..50 is 3..8: the second is from 20 - 8 to 30 - 3
+  pub counter_difference_y : counter.narrowed Difference nearest_alone (three (from_to 20 30) (from_to 0 50) (from_to 3 8)) ≡ Some (three (from_to 20 30) (from_to 12 27) (from_to 3 8))
+  -- 10..20 less 15..40 is 3..50: the first is at least 3 + 15, the second at most 20 - 3, and the difference at most 20 - 15
+  pub counter_difference : counter.narrowed Difference nearest_alone (three (from_to 10 20) (from_to 15 40) (from_to 3 50)) ≡ Some (three (from_to 18 20) (from_to 15 17) (from_to 3 5))
+  -- the larger of 2..4 and 0..20 is 6..12: the second is 6..12, as the first is below 6
+  pub counter_peak_y : counter.narrowed Peak nearest_alone (three (from_to 2 4) (from_to 0 20) (from_to 6 12)) ≡ Some (three (from_to 2 4) (from_to 6 12) (from_to 6 12))
   -- a peak hold whose y and z are one register, 2..7, with x 5..9: both become 5..7
   pub held_peak_x : range_at (sheet_of counter (from_to 5 9 ∷ from_to 2 7 ∷ []) (line Peak 0 1 1)) 0 ≡ from_to 5 7
   pub held_peak_yz : range_at (sheet_of counter (from_to 5 9 ∷ from_to 2 7 ∷ []) (line Peak 0 1 1)) 1 ≡ from_to 5 7
