@@ -86,6 +86,14 @@ pub record Worked : Type 0 where
   pub counter_difference : counter.narrowed Difference nearest_alone (three (from_to 10 20) (from_to 15 40) (from_to 3 50)) ≡ Some (three (from_to 18 20) (from_to 15 17) (from_to 3 5))
   -- the larger of 2..4 and 0..20 is 6..12: the second is 6..12, as the first is below 6
   pub counter_peak_y : counter.narrowed Peak nearest_alone (three (from_to 2 4) (from_to 0 20) (from_to 6 12)) ≡ Some (three (from_to 2 4) (from_to 6 12) (from_to 6 12))
+  -- a counter difference is the first less the second, and stops at 0
+  pub counter_less : counter.narrowed Difference nearest_alone (three (from_to 20 30) (from_to 5 8) (from_to 0 16777215)) ≡ Some (three (from_to 20 30) (from_to 5 8) (from_to 12 25))
+  pub counter_stop_at_0 : counter.narrowed Difference nearest_alone (three (from_to 5 9) (from_to 7 20) (from_to 0 16777215)) ≡ Some (three (from_to 5 9) (from_to 7 20) (from_to 0 2))
+  -- the greatest counter pattern, the first that is no reading, and how ranks above and below the readings are written
+  pub counter_greatest : counter.reads 0x00FFFFFF ≡ Some (pos 16777215)
+  pub counter_no_reading : rank_or_2 (counter.reads 0x01000000) ≡ Err 2
+  pub counter_written_above : counter.writes (pos 16777216) ≡ 0x00FFFFFF
+  pub counter_written_below : counter.writes (negative 1) ≡ 0x00000000
   -- a peak hold whose y and z are one register, 2..7, with x 5..9: both become 5..7
   pub held_peak_x : range_at (sheet_of counter (from_to 5 9 ∷ from_to 2 7 ∷ []) (line Peak 0 1 1)) 0 ≡ from_to 5 7
   pub held_peak_yz : range_at (sheet_of counter (from_to 5 9 ∷ from_to 2 7 ∷ []) (line Peak 0 1 1)) 1 ≡ from_to 5 7
