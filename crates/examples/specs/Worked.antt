@@ -4,10 +4,12 @@ use Rattle.catalogue.specs.declared.types.Kind.{Kind}
 use Rattle.catalogue.specs.declared.types.Kind.TheVariants.{Sum, Difference, Peak}
 use Rattle.catalogue.specs.declared.types.Modes.{Modes}
 use Rattle.catalogue.specs.declared.types.Range.{Range}
+use Rattle.catalogue.specs.declared.types.Span.{Span}
 use Rattle.catalogue.specs.declared.types.Triple.{Triple}
+use Rattle.catalogue.specs.Operations.{span_of}
 use Rattle.catalogue.specs.Meanings.{Meaning, rank_or_2}
-use Rattle.catalogue.specs.declared.types.Mode.TheVariants.{Nearest, Up, TowardZero}
-use Rattle.binary32.specs.Binary32.{binary}
+use Rattle.catalogue.specs.declared.types.Mode.TheVariants.{Nearest, Up, Down, TowardZero}
+use Rattle.binary32.specs.Binary32.{binary, binary32}
 use Rattle.binary32.specs.Computed.{rounded}
 use Rattle.binary32.specs.Units.{beyond, value}
 use Rattle.counters.specs.Counters.{counter}
@@ -46,6 +48,13 @@ between l h = record { low = l; high = h }
 abbrev pub up_and_down : Modes
 up_and_down = record { bits = 6 }
 
+abbrev pub all_modes : Modes
+all_modes = record { bits = 15 }
+
+-- the least and the greatest result where they are one rank
+abbrev pub one_result : ℤ → Span
+one_result v = record { least = v; greatest = v }
+
 -- 16 = 41800000 is given for y and z, and -1 to 1 = BF800000..3F800000 for x
 abbrev pub around_sixteen : Triple
 around_sixteen = three (between (negative 0x3F800000) (pos 0x3F800000)) (from_to 0x41800000 0x41800000) (from_to 0x41800000 0x41800000)
@@ -56,11 +65,23 @@ pub record Worked : Type 0 where
   pub minus_zero : binary.reads 0x80000000 ≡ Some (pos 0)
   pub greatest : binary.reads 0x7F7FFFFF ≡ Some (pos 2139095039)
   pub infinity : rank_or_2 (binary.reads 0x7F800000) ≡ Err 2
-  -- 1 + 2^-24 is 1 to nearest, a tie that goes to the even rank, and the next reading up
+  -- 1 + 2^-24 is 1 to nearest, a tie that goes to the even rank, 1 down and toward zero, and up the next reading
   pub tie_to_even : rounded Nearest (value (pos 0x3F800000) +ℤ value (pos 0x33800000)) ≡ pos 0x3F800000
   pub tie_up : rounded Up (value (pos 0x3F800000) +ℤ value (pos 0x33800000)) ≡ pos 0x3F800001
-  -- the greatest reading added to itself lies beyond to nearest, and is the greatest reading toward zero
+  pub tie_down : rounded Down (value (pos 0x3F800000) +ℤ value (pos 0x33800000)) ≡ pos 0x3F800000
+  pub tie_toward_zero : rounded TowardZero (value (pos 0x3F800000) +ℤ value (pos 0x33800000)) ≡ pos 0x3F800000
+  -- -1 - 2^-24 is -1 to nearest, up and toward zero, and down the reading before -1
+  pub negative_tie_to_even : rounded Nearest (value (negative 0x3F800000) +ℤ value (negative 0x33800000)) ≡ negative 0x3F800000
+  pub negative_tie_up : rounded Up (value (negative 0x3F800000) +ℤ value (negative 0x33800000)) ≡ negative 0x3F800000
+  pub negative_tie_down : rounded Down (value (negative 0x3F800000) +ℤ value (negative 0x33800000)) ≡ negative 0x3F800001
+  pub negative_tie_toward_zero : rounded TowardZero (value (negative 0x3F800000) +ℤ value (negative 0x33800000)) ≡ negative 0x3F800000
+  -- two subnormal readings add up exactly under all modes: 3 and 4194304 units, and the greatest of them twice, whose sum is a normal reading
+  pub subnormal_sum : span_of binary32 Sum all_modes (pos 0x00000003) (pos 0x00400000) ≡ one_result (pos 0x00400003)
+  pub subnormal_twice : span_of binary32 Sum all_modes (pos 0x007FFFFF) (pos 0x007FFFFF) ≡ one_result (pos 0x00FFFFFE)
+  -- the greatest reading added to itself lies beyond to nearest and up, and is the greatest reading down and toward zero
   pub beyond_nearest : rounded Nearest (value (pos 0x7F7FFFFF) +ℤ value (pos 0x7F7FFFFF)) ≡ pos beyond
+  pub beyond_up : rounded Up (value (pos 0x7F7FFFFF) +ℤ value (pos 0x7F7FFFFF)) ≡ pos beyond
+  pub beyond_down : rounded Down (value (pos 0x7F7FFFFF) +ℤ value (pos 0x7F7FFFFF)) ≡ pos 0x7F7FFFFF
   pub beyond_toward_zero : rounded TowardZero (value (pos 0x7F7FFFFF) +ℤ value (pos 0x7F7FFFFF)) ≡ pos 0x7F7FFFFF
   -- x + 16 = 16 allows x from B5000000 to 35800000 to nearest, and from B57FFFFF to 35FFFFFF up or down
   pub sum_to_nearest : binary.narrowed Sum nearest_alone around_sixteen ≡ Some (three (between (negative 0x35000000) (pos 0x35800000)) (from_to 0x41800000 0x41800000) (from_to 0x41800000 0x41800000))
