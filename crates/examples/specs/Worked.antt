@@ -4,10 +4,12 @@ use Rattle.catalogue.specs.declared.types.Kind.{Kind}
 use Rattle.catalogue.specs.declared.types.Kind.TheVariants.{Sum, Difference, Peak}
 use Rattle.catalogue.specs.declared.types.Modes.{Modes}
 use Rattle.catalogue.specs.declared.types.Range.{Range}
+use Rattle.catalogue.specs.declared.types.Span.{Span}
 use Rattle.catalogue.specs.declared.types.Triple.{Triple}
+use Rattle.catalogue.specs.Operations.{span_of}
 use Rattle.catalogue.specs.Meanings.{Meaning, rank_or_2}
-use Rattle.catalogue.specs.declared.types.Mode.TheVariants.{Nearest, Up, TowardZero}
-use Rattle.binary32.specs.Binary32.{binary}
+use Rattle.catalogue.specs.declared.types.Mode.TheVariants.{Nearest, Up, Down, TowardZero}
+use Rattle.binary32.specs.Binary32.{binary, binary32}
 use Rattle.binary32.specs.Computed.{rounded}
 use Rattle.binary32.specs.Units.{beyond, value}
 use Rattle.counters.specs.Counters.{counter}
@@ -46,6 +48,13 @@ between l h = record { low = l; high = h }
 abbrev pub up_and_down : Modes
 up_and_down = record { bits = 6 }
 
+abbrev pub all_modes : Modes
+all_modes = record { bits = 15 }
+
+-- the least and the greatest result where they are one rank
+abbrev pub one_result : ℤ → Span
+one_result v = record { least = v; greatest = v }
+
 -- 16 = 41800000 is given for y and z, and -1 to 1 = BF800000..3F800000 for x
 abbrev pub around_sixteen : Triple
 around_sixteen = three (between (negative 0x3F800000) (pos 0x3F800000)) (from_to 0x41800000 0x41800000) (from_to 0x41800000 0x41800000)
@@ -56,15 +65,29 @@ pub record Worked : Type 0 where
   pub minus_zero : binary.reads 0x80000000 ≡ Some (pos 0)
   pub greatest : binary.reads 0x7F7FFFFF ≡ Some (pos 2139095039)
   pub infinity : rank_or_2 (binary.reads 0x7F800000) ≡ Err 2
-  -- 1 + 2^-24 is 1 to nearest, a tie that goes to the even rank, and the next reading up
+  -- 1 + 2^-24 is 1 to nearest, a tie that goes to the even rank, 1 down and toward zero, and up the next reading
   pub tie_to_even : rounded Nearest (value (pos 0x3F800000) +ℤ value (pos 0x33800000)) ≡ pos 0x3F800000
   pub tie_up : rounded Up (value (pos 0x3F800000) +ℤ value (pos 0x33800000)) ≡ pos 0x3F800001
-  -- the greatest reading added to itself lies beyond to nearest, and is the greatest reading toward zero
+  pub tie_down : rounded Down (value (pos 0x3F800000) +ℤ value (pos 0x33800000)) ≡ pos 0x3F800000
+  pub tie_toward_zero : rounded TowardZero (value (pos 0x3F800000) +ℤ value (pos 0x33800000)) ≡ pos 0x3F800000
+  -- -1 - 2^-24 is -1 to nearest, up and toward zero, and down the reading before -1
+  pub negative_tie_to_even : rounded Nearest (value (negative 0x3F800000) +ℤ value (negative 0x33800000)) ≡ negative 0x3F800000
+  pub negative_tie_up : rounded Up (value (negative 0x3F800000) +ℤ value (negative 0x33800000)) ≡ negative 0x3F800000
+  pub negative_tie_down : rounded Down (value (negative 0x3F800000) +ℤ value (negative 0x33800000)) ≡ negative 0x3F800001
+  pub negative_tie_toward_zero : rounded TowardZero (value (negative 0x3F800000) +ℤ value (negative 0x33800000)) ≡ negative 0x3F800000
+  -- two subnormal readings add up exactly under all modes: 3 and 4194304 units, and the greatest of them twice, whose sum is a normal reading
+  pub subnormal_sum : span_of binary32 Sum all_modes (pos 0x00000003) (pos 0x00400000) ≡ one_result (pos 0x00400003)
+  pub subnormal_twice : span_of binary32 Sum all_modes (pos 0x007FFFFF) (pos 0x007FFFFF) ≡ one_result (pos 0x00FFFFFE)
+  -- the greatest reading added to itself lies beyond to nearest and up, and is the greatest reading down and toward zero
   pub beyond_nearest : rounded Nearest (value (pos 0x7F7FFFFF) +ℤ value (pos 0x7F7FFFFF)) ≡ pos beyond
+  pub beyond_up : rounded Up (value (pos 0x7F7FFFFF) +ℤ value (pos 0x7F7FFFFF)) ≡ pos beyond
+  pub beyond_down : rounded Down (value (pos 0x7F7FFFFF) +ℤ value (pos 0x7F7FFFFF)) ≡ pos 0x7F7FFFFF
   pub beyond_toward_zero : rounded TowardZero (value (pos 0x7F7FFFFF) +ℤ value (pos 0x7F7FFFFF)) ≡ pos 0x7F7FFFFF
   -- x + 16 = 16 allows x from B5000000 to 35800000 to nearest, and from B57FFFFF to 35FFFFFF up or down
   pub sum_to_nearest : binary.narrowed Sum nearest_alone around_sixteen ≡ Some (three (between (negative 0x35000000) (pos 0x35800000)) (from_to 0x41800000 0x41800000) (from_to 0x41800000 0x41800000))
   pub sum_up_and_down : binary.narrowed Sum up_and_down around_sixteen ≡ Some (three (between (negative 0x357FFFFF) (pos 0x35FFFFFF)) (from_to 0x41800000 0x41800000) (from_to 0x41800000 0x41800000))
+  -- 16 - y = 16 allows y from B5FFFFFF to 357FFFFF up or down
+  pub difference_up_and_down : binary.narrowed Difference up_and_down (three (from_to 0x41800000 0x41800000) (between (negative 0x3F800000) (pos 0x3F800000)) (from_to 0x41800000 0x41800000)) ≡ Some (three (from_to 0x41800000 0x41800000) (between (negative 0x35FFFFFF) (pos 0x357FFFFF)) (from_to 0x41800000 0x41800000))
   -- 1..2 less 0.5..1 is 0..1.5, of a given 0..10
   pub difference : binary.narrowed Difference nearest_alone (three (from_to 0x3F800000 0x40000000) (from_to 0x3F000000 0x3F800000) (from_to 0 0x41200000)) ≡ Some (three (from_to 0x3F800000 0x40000000) (from_to 0x3F000000 0x3F800000) (from_to 0 0x3FC00000))
   -- 16 + y = 16: there is such a y in a range that holds 0, and none in 1..2
@@ -74,6 +97,24 @@ pub record Worked : Type 0 where
   pub counter_sum : counter.narrowed Sum nearest_alone (three (from_to 0 100) (from_to 50 60) (from_to 120 200)) ≡ Some (three (from_to 60 100) (from_to 50 60) (from_to 120 160))
   -- a counter sum stops at the greatest reading
   pub counter_stop : counter.narrowed Sum nearest_alone (three (from_to 16777000 16777215) (from_to 300 400) (from_to 0 16777215)) ≡ Some (three (from_to 16777000 16777215) (from_to 300 400) (from_to 16777215 16777215))
+  -- counters 10..20 and 0..100 whose sum is 30..50: the second is from 30 - 20 to 50 - 10
+  pub counter_sum_y : counter.narrowed Sum nearest_alone (three (from_to 10 20) (from_to 0 100) (from_to 30 50)) ≡ Some (three (from_to 10 20) (from_to 10 40) (from_to 30 50))
+  -- 0..30 less 5..15 is 3..8: the first is from 3 + 5 to 8 + 15
+  pub counter_difference_x : counter.narrowed Difference nearest_alone (three (from_to 0 30) (from_to 5 15) (from_to 3 8)) ≡ Some (three (from_to 8 23) (from_to 5 15) (from_to 3 8))
+  -- 20..30 less 0..50 is 3..8: the second is from 20 - 8 to 30 - 3
+  pub counter_difference_y : counter.narrowed Difference nearest_alone (three (from_to 20 30) (from_to 0 50) (from_to 3 8)) ≡ Some (three (from_to 20 30) (from_to 12 27) (from_to 3 8))
+  -- 10..20 less 15..40 is 3..50: the first is at least 3 + 15, the second at most 20 - 3, and the difference at most 20 - 15
+  pub counter_difference : counter.narrowed Difference nearest_alone (three (from_to 10 20) (from_to 15 40) (from_to 3 50)) ≡ Some (three (from_to 18 20) (from_to 15 17) (from_to 3 5))
+  -- the larger of 2..4 and 0..20 is 6..12: the second is 6..12, as the first is below 6
+  pub counter_peak_y : counter.narrowed Peak nearest_alone (three (from_to 2 4) (from_to 0 20) (from_to 6 12)) ≡ Some (three (from_to 2 4) (from_to 6 12) (from_to 6 12))
+  -- a counter difference is the first less the second, and stops at 0
+  pub counter_less : counter.narrowed Difference nearest_alone (three (from_to 20 30) (from_to 5 8) (from_to 0 16777215)) ≡ Some (three (from_to 20 30) (from_to 5 8) (from_to 12 25))
+  pub counter_stop_at_0 : counter.narrowed Difference nearest_alone (three (from_to 5 9) (from_to 7 20) (from_to 0 16777215)) ≡ Some (three (from_to 5 9) (from_to 7 20) (from_to 0 2))
+  -- the greatest counter pattern, the first that is no reading, and how ranks above and below the readings are written
+  pub counter_greatest : counter.reads 0x00FFFFFF ≡ Some (pos 16777215)
+  pub counter_no_reading : rank_or_2 (counter.reads 0x01000000) ≡ Err 2
+  pub counter_written_above : counter.writes (pos 16777216) ≡ 0x00FFFFFF
+  pub counter_written_below : counter.writes (negative 1) ≡ 0x00000000
   -- a peak hold whose y and z are one register, 2..7, with x 5..9: both become 5..7
   pub held_peak_x : range_at (sheet_of counter (from_to 5 9 ∷ from_to 2 7 ∷ []) (line Peak 0 1 1)) 0 ≡ from_to 5 7
   pub held_peak_yz : range_at (sheet_of counter (from_to 5 9 ∷ from_to 2 7 ∷ []) (line Peak 0 1 1)) 1 ≡ from_to 5 7
