@@ -8,6 +8,7 @@ ghost use Rattle.answers.specs.Texts.{line_of, refused, reply_of};
 ghost use Rattle.commands.specs.Commands.{command_of};
 ghost use Rattle.promise.specs.Histories.{Call, after};
 ghost use Rattle.promise.specs.Promise.{Consequences, Promise};
+ghost use Rattle.session.specs.declared.TheConstants.{MOST_BYTES};
 ghost use Rattle.session.specs.Sessions.{Leads, Told, answers, calls_of, replied, reply_or, table_after, written_for};
 ghost use Rattle.sheet.specs.Rules.{new_table};
 ghost use Rattle.words.specs.Lines.{lines};
@@ -132,7 +133,8 @@ fn unreadable(heap: Global) -> Result<String, AllocError>
 
 /// What is written for an input: the answers to its lines behind the first, which names the catalogue.
 pub fn answer_input(heap: Global, input: &[u8]) -> Result<String, AllocError>
-    ensures { IfOk result (λ s. string_bytes s ≡ written_for input.now) }
+    ensures answers { IfOk result (λ s. string_bytes s ≡ written_for input.now) }
+    ensures most { MOST_BYTES ≡ 65536 }
 {
     if input.len() > MOST_BYTES {
         return unreadable(heap);
