@@ -17,7 +17,7 @@ room=$(mktemp -d)
 trap 'rm -rf "$room" "$kept/running"' EXIT
 trap 'exit 130' INT TERM HUP
 if [ $# -eq 0 ]; then
-    set -- words commands answers session promise counters client examples worked vectors long_use sheet catalogue binary32
+    set -- words commands answers session promise counters client examples worked ranges vectors long_use sheet catalogue binary32
 fi
 # rt takes what the repository's own out/ has, so the copy needs none
 tar -C "$root" --exclude='crates/*/out' --exclude='crates/*/must-fail' -cf - crates crates.txt | tar -C "$room" -xf - || exit 2
