@@ -2,7 +2,8 @@
 # What the rest of the gate says of bugs that are still proved: gate.sh CRATE/LABEL.. Each one is planted in a copy of the
 # repository, and then every crate is checked and every program run, what must be derived is looked at, the code that the
 # build must reject is tried, and the program is compared with the model. It says which of these fails first, or that none
-# does; with --quick it leaves out the last two. A program that has the bug and is still proved is kept as target/planted/CRATE.LABEL.bin.
+# does; with --quick it leaves out the last two. A program that has the bug and is still proved is kept as
+# target/planted/CRATE.LABEL.bin.
 set -u
 root=$(cd "$(dirname "$0")/../.." && pwd) || exit 2
 quick=0
