@@ -1,6 +1,6 @@
 #!/bin/sh
-# The build must reject calling code that enters a drawn line, enters a line twice, makes a checked line by hand, changes a
-# sheet while a look stands, or reaches into its table.
+# The build must reject calling code that enters a drawn line, enters a line twice, makes a checked line by hand or clones
+# one, changes a sheet while a look stands, makes a look by hand, reaches into a sheet's table, or replaces its catalogue.
 # Each file of crates/client/refused/ names the compiler's error in its first line; the rest of it is appended to a copy
 # of the client crate, which is accepted as it stands, and the check must then fail with that very error.
 set -u

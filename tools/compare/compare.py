@@ -3,11 +3,12 @@
 
 Edge sizes and first lines, the bench scripts, and some hundred random scripts by a fixed seed. Each run of the program
 has ten seconds, so a search that became linear, or a settle that never ends, fails here too. A failed read or write must
-show in the exit status.
+show in the exit status, and an input without end is too long.
 """
 import os
 import pathlib
 import random
+import resource
 import struct
 import subprocess
 import sys
@@ -136,9 +137,29 @@ def failures_untold():
     return unread.returncode == 0 or unwritten.returncode == 0
 
 
+def most_memory():
+    resource.setrlimit(resource.RLIMIT_AS, (1 << 30, 1 << 30))
+
+
+def too_long_by(source):
+    """Whether the program answers `no 10` alone to an input without end, for which it has 1 GiB of memory."""
+    ran = subprocess.run([PROGRAM], stdin=source, capture_output=True, timeout=10, preexec_fn=most_memory)
+    return ran.returncode == 0 and ran.stdout == b"no 10\n"
+
+
+def endless_misread():
+    """Whether the program answers otherwise to zeros without end, or to a script that goes on until the pipe breaks."""
+    with open("/dev/zero", "rb") as zeros, subprocess.Popen(
+            ["sh", "-c", "echo B; exec yes 'S 1'"], stdout=subprocess.PIPE) as script:
+        return not (too_long_by(zeros) and too_long_by(script.stdout))
+
+
 def main():
     if failures_untold():
         print("ranges says nothing of an input that it could not read, or of answers that it could not write")
+        return 1
+    if endless_misread():
+        print("ranges does not answer an input without end by `no 10` alone")
         return 1
     benches = [path.with_suffix(".txt").read_bytes() for path in sorted((ROOT / "tools" / "bench").glob("*.expected"))]
     done = 0

@@ -1,8 +1,9 @@
 #!/bin/sh
 # What the rest of the gate says of bugs that are still proved: gate.sh CRATE/LABEL.. Each one is planted in a copy of the
-# repository, and then every crate is checked and every program run, the code that the build must reject is tried, and the
-# program is compared with the model. It says which of these fails first, or that none does; with --quick it leaves out
-# the last two. A program that has the bug and is still proved is kept as target/planted/CRATE.LABEL.bin.
+# repository, and then every crate is checked and every program run, what must be derived is looked at, the code that the
+# build must reject is tried, and the program is compared with the model. It says which of these fails first, or that none
+# does; with --quick it leaves out the last two. A program that has the bug and is still proved is kept as
+# target/planted/CRATE.LABEL.bin.
 set -u
 root=$(cd "$(dirname "$0")/../.." && pwd) || exit 2
 quick=0
@@ -43,6 +44,10 @@ for what in "$@"; do
     fi
     if [ $status -ne 0 ]; then
         echo "$what: refused by rt ci: $(grep -E '^rt: .*(NOT PROVED|FAILED|what the program wrote|the program (ended|had not ended|was stopped))' "$said" | head -n 1 | cut -c1-200)"
+        continue
+    fi
+    if ! "$room/tools/derived.sh" >>"$said" 2>&1; then
+        echo "$what: refused by tools/derived.sh: $(tail -n 1 "$said")"
         continue
     fi
     if [ $quick -eq 0 ]; then

@@ -1,6 +1,7 @@
 //! A long-used sheet beside a new one: two scripts are replayed, and then a hundred thousand changes are made by a fixed
 //! rule, and time and again the sheet is compared with a new one that gets only the limits and lines that stand. At last
-//! two sheets that are unlike are compared, to show that a difference is seen.
+//! sheets that are unlike are compared, to show that a difference is seen: other limits at a register in the middle or at
+//! the last one, and a void sheet beside a settled one.
 
 #![tactic(auto)]
 
@@ -333,12 +334,28 @@ fn soak<C: Catalogue + Copy + Drop>(
     Ok(counts)
 }
 
-/// Two new sheets, one with other limits at the last register: a comparison that sees nothing would find them alike.
-fn compare_unlike() -> Compared {
+/// Two new sheets, one with other limits at a register: a comparison that sees nothing there would find them alike.
+fn compare_unlike(register: u32) -> Compared {
     let mut one = Sheet::new(Counter);
     let mut other = Sheet::new(Counter);
-    let _ = other.limit(31, 0, 1);
+    let _ = other.limit(register, 0, 1);
     compare(&mut one, &mut other)
+}
+
+/// A void sheet, on which 1 + 1 is to be 1, beside a new one.
+fn compare_void() -> Compared {
+    let mut void = Sheet::new(Counter);
+    let _ = void.limit(0, 1, 1);
+    let line = DrawnLine {
+        kind: 0,
+        modes: 1,
+        x: 0,
+        y: 0,
+        z: 0,
+    };
+    let _ = void.tie(0, line);
+    let mut new = Sheet::new(Counter);
+    compare(&mut void, &mut new)
 }
 
 fn main(rt: HostRuntime) -> anyhow::Result<()> {
@@ -353,7 +370,11 @@ fn main(rt: HostRuntime) -> anyhow::Result<()> {
     println!(rt; "counter: 100000 changes, 100 comparisons: {counter}")?;
     let binary = soak(heap, Binary32::new(), 0x3F80_0000)?;
     println!(rt; "binary32: 100000 changes, 100 comparisons: {binary}")?;
+    println!(rt; "two sheets with other limits at register 7")?;
+    println!(rt; "{}", compare_unlike(7))?;
     println!(rt; "two sheets with other limits at register 31")?;
-    println!(rt; "{}", compare_unlike())?;
+    println!(rt; "{}", compare_unlike(31))?;
+    println!(rt; "a void sheet and a settled one")?;
+    println!(rt; "{}", compare_void())?;
     Ok(())
 }
