@@ -49,8 +49,8 @@ def edges():
         for _ in range(300):
             wide += [b"L 2 %s %s" % (next_to_top, top), b"S 9", b"L 2 00000000 00000001", b"S 9", b"R 0"]
         yield b"\n".join(wide)
-    # 16 + x = 16 for every x near 0: a bound that lies hundreds of millions of ranks from where a difference puts it
-    far = [b"B", b"L 1 41800000 41800000", b"L 2 41800000 41800000", b"E 0 s 1 0 1 2"]
+    # 16 + x = 16 for every x near 0: rounded down alone, a bound that lies hundreds of millions of ranks from the likely one
+    far = [b"B", b"L 1 41800000 41800000", b"L 2 41800000 41800000", b"E 0 s 4 0 1 2"]
     for _ in range(300):
         far += [b"L 0 BF800000 3F800000", b"S 9", b"R 0", b"L 0 C0000000 40000000"]
     yield b"\n".join(far)

@@ -143,7 +143,7 @@ fn show_the_same<C: Catalogue>(a: &Sheet<C>, b: &Sheet<C>) -> bool {
     (0..32).all(|register| look_at(a, register) == look_at(b, register))
 }
 
-/// How two sheets with the same limits and lines compare.
+/// How two sheets compare.
 #[derive(Clone, Copy)]
 enum Compared {
     BothSettled,

@@ -1,4 +1,4 @@
--- Progress: a step of an open sheet widens no range, and one that changes none takes a line from those that are due.
+-- Progress: a step of an open sheet that does not make it void widens no range, and one that changes none takes a line from those that are due.
 use Rattle.std.proofs.Common.{◌≡◌, ℕ, ◌<◌, true, ◌≢◌, Some, None, Option, sym, refl, ap, ◌∙◌, subst}
 use Rattle.std.proofs.lemmas.Bool.{cond-false}
 use Rattle.std.specs.Int.Count.{count_trailing_zeros}

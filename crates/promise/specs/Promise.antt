@@ -125,6 +125,6 @@ pub record Consequences (m : Meaning) : Type 0 where
   -- a line leaves ranges unchanged, in the sense above, exactly if its step on a table with these ranges changes none of them
   pub unchanged_step : (l : Line) (t : Table) → passes_check l ≡ true → ((r : ℕ) → r < 32 → Proper (range_at t r)) → Unchanged m l (range_at t) → narrowed_by m l t ≡ Some t
   pub step_unchanged : (l : Line) (t u : Table) → passes_check l ≡ true → length t.ranges ≡ 32 → narrowed_by m l t ≡ Some u → ((r : ℕ) → r < 32 → range_at u r ≡ range_at t r) → Unchanged m l (range_at t)
-  -- a step of an open sheet widens no range; and if it changes none, it takes one line from those that are due, and adds none
+  -- a step of an open sheet that does not make it void widens no range; and if it changes none, it takes one line from those that are due, and adds none
   pub narrower : (h : List Call) → (after m h).state ≡ Open → (step m (after m h)).state ≢ Void → Inside (range_at (step m (after m h))) (range_at (after m h))
   pub fewer : (h : List Call) → (after m h).state ≡ Open → (step m (after m h)).state ≢ Void → ((r : ℕ) → r < 32 → range_at (step m (after m h)) r ≡ range_at (after m h) r) → (n : ℕ) × ((has (after m h).due n ≡ true) × ((step m (after m h)).due ≡ without n (after m h).due))
