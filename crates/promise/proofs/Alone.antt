@@ -65,27 +65,36 @@ then_some : (o : Option Table) (f : Table → Option Table) (u : Table) → then
 then_some None f u e = absurd cc
 then_some (Some v) f u e = (v, refl, e)
 
+-- what the three cuts of a line leave: every range within what it was, and the line's own within its results
+record Absorbed (l : Line) (s : Triple) (t u : Table) : Type 0 where
+  inside : (q : ℕ) → Within (range_at u q) (range_at t q)
+  at_x : Within (range_at u l.x) s.x
+  at_y : Within (range_at u l.y) s.y
+  at_z : Within (range_at u l.z) s.z
+
+absorbed_all : (l : Line) (s : Triple) (t u : Table) → Passes l → length t.ranges ≡ 32 → absorbed l (Some s) t ≡ Some u → Absorbed l s t u
+absorbed_all l s t u p wide e =
+    let c = then_some (then (cut l.x s.x t) (cut l.y s.y)) (cut l.z s.z) u e in
+    let b = then_some (cut l.x s.x t) (cut l.y s.y) c.0 c.1 in
+    let x = cut_left l.x s.x t b.0 p.x wide b.1 in
+    let y = cut_left l.y s.y b.0 c.0 p.y x.wide b.2 in
+    let z = cut_left l.z s.z c.0 u p.z y.wide c.2 in
+    record {
+      inside = λ q. within_then (range_at u q) (range_at c.0 q) (range_at t q) (z.inside q) (within_then (range_at c.0 q) (range_at b.0 q) (range_at t q) (y.inside q) (x.inside q));
+      at_x = within_then (range_at u l.x) (range_at c.0 l.x) s.x (z.inside l.x) (within_then (range_at c.0 l.x) (range_at b.0 l.x) s.x (y.inside l.x) x.here);
+      at_y = within_then (range_at u l.y) (range_at c.0 l.y) s.y (z.inside l.y) y.here;
+      at_z = z.here;
+    }
+
 absorbed_left : (l : Line) (o : Option Triple) (t u : Table) → Passes l → length t.ranges ≡ 32 → absorbed l o t ≡ Some u → ((r : ℕ) → r < 32 → range_at u r ≡ range_at t r) → WithinO (Some (given l t)) o
 absorbed_left l None t u p wide e same = absurd cc
 absorbed_left l (Some s) t u p wide e same =
-    let c = then_some (then (cut l.x s.x t) (cut l.y s.y)) (cut l.z s.z) u e in
-    let b = then_some (cut l.x s.x t) (cut l.y s.y) c.0 c.1 in
-    let x = cut_left l.x s.x t b.0 p.x wide b.1 in
-    let y = cut_left l.y s.y b.0 c.0 p.y x.wide b.2 in
-    let z = cut_left l.z s.z c.0 u p.z y.wide c.2 in
-    let at_y : Within (range_at u l.y) s.y = within_then (range_at u l.y) (range_at c.0 l.y) s.y (z.inside l.y) y.here in
-    let at_x : Within (range_at u l.x) s.x = within_then (range_at u l.x) (range_at c.0 l.x) s.x (z.inside l.x) (within_then (range_at c.0 l.x) (range_at b.0 l.x) s.x (y.inside l.x) x.here) in
-    (subst (λ v. Within v s.x) (same l.x p.x) at_x, subst (λ v. Within v s.y) (same l.y p.y) at_y, subst (λ v. Within v s.z) (same l.z p.z) z.here)
+    let a = absorbed_all l s t u p wide e in
+    (subst (λ v. Within v s.x) (same l.x p.x) a.at_x, subst (λ v. Within v s.y) (same l.y p.y) a.at_y, subst (λ v. Within v s.z) (same l.z p.z) a.at_z)
 
 pub absorbed_inside : (l : Line) (o : Option Triple) (t u : Table) → Passes l → length t.ranges ≡ 32 → absorbed l o t ≡ Some u → (q : ℕ) → Within (range_at u q) (range_at t q)
 absorbed_inside l None t u p wide e q = absurd cc
-absorbed_inside l (Some s) t u p wide e q =
-    let c = then_some (then (cut l.x s.x t) (cut l.y s.y)) (cut l.z s.z) u e in
-    let b = then_some (cut l.x s.x t) (cut l.y s.y) c.0 c.1 in
-    let x = cut_left l.x s.x t b.0 p.x wide b.1 in
-    let y = cut_left l.y s.y b.0 c.0 p.y x.wide b.2 in
-    let z = cut_left l.z s.z c.0 u p.z y.wide c.2 in
-    within_then (range_at u q) (range_at c.0 q) (range_at t q) (z.inside q) (within_then (range_at c.0 q) (range_at b.0 q) (range_at t q) (y.inside q) (x.inside q))
+absorbed_inside l (Some s) t u p wide e q = (absorbed_all l s t u p wide e).inside q
 
 -- ---- both ways, for a line that passes the check
 module _ (m : Meaning) (laws : Laws m) (l : Line) (p : Passes l) (t : Table) where

@@ -8,15 +8,14 @@ use Rattle.sheet.specs.declared.places.Places.{Places}
 use Rattle.sheet.specs.declared.table.State.TheVariants.{Open, Void}
 use Rattle.sheet.specs.declared.table.Table.{Table}
 use Rattle.sheet.specs.Calls.{is_void}
-use Rattle.sheet.specs.Lines.{checked, drawn_of}
 use Rattle.sheet.specs.Places.{has, is_none, lowest, none, without}
 use Rattle.sheet.specs.Rules.{range_at, step, step_at, step_line, or_void, narrowed_by, with_due}
 use Rattle.sheet.proofs.PlaceSets.{lowest_in}
 use Rattle.promise.specs.Promise.{Ranges, Inside}
 use Rattle.promise.proofs.Alone.{absorbed_inside, unchanged_alone, alone_unchanged}
-use Rattle.promise.proofs.Remade.{passing, remade}
+use Rattle.promise.proofs.Remade.{passing}
 use Rattle.promise.proofs.Sounds.{Drawn, Sound, Live, Fixed, nowhere}
-use Rattle.promise.proofs.Stepping.{line_of}
+use Rattle.promise.proofs.Stepping.{due_place, line_again, line_of}
 
 abbrev due_of : Option Table → Places
 due_of None = none
@@ -34,10 +33,10 @@ module _ (m : Meaning) (laws : Laws m) (limits-to : Ranges) (at : Drawn) (t : Ta
   taken = cond-false (is_none t.due) None (Some n) (sound.busy is_open)
 
   pub due : has t.due n ≡ true
-  due = lowest_in t.due n (λ k d. let f = line_of at t on.shape k (on.due k d) in (on.shape.there k f.0 f.1).place) taken
+  due = lowest_in t.due n (λ k d. due_place at t on.shape k (on.due k d)) taken
 
   -- the line there
-  line : (l : Line) × (at n ≡ Some l)
+  pub line : (l : Line) × (at n ≡ Some l)
   line = line_of at t on.shape n (on.due n due)
 
   abbrev l : Line
@@ -47,9 +46,7 @@ module _ (m : Meaning) (laws : Laws m) (limits-to : Ranges) (at : Drawn) (t : Ta
   waiting = with_due (without n t.due) t
 
   stepped_is : step m t ≡ or_void waiting (narrowed_by m l waiting)
-  stepped_is =
-      let s = on.shape.there n l line.1 in
-      ap (λ o. step_at m o t) taken ∙ ap (λ c. step_line m c waiting) (ap (λ w. checked (drawn_of w)) s.row ∙ remade l s.passes)
+  stepped_is = ap (λ o. step_at m o t) taken ∙ ap (λ c. step_line m c waiting) (line_again t n l (on.shape.there n l line.1))
 
   abbrev Left : Option Table → Type 0
   Left o = narrowed_by m l waiting ≡ o → (or_void waiting o).state ≢ Void → Inside (range_at (or_void waiting o)) (range_at t)

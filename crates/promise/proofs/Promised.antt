@@ -13,16 +13,14 @@ use Rattle.sheet.specs.declared.table.Table.{Table}
 use Rattle.sheet.specs.Calls.{is_void}
 use Rattle.promise.specs.Histories.{Call, strike, enter, after, limits_of, line_at, HasLine}
 use Rattle.promise.specs.Promise.{Ranges, Assignment, given_to, Consistent, Inside, InLimits, Keeps, Shows, SameLines, SameLimits, Alike, Rests, ForEveryCatalogue, settles, Consequences}
-use Rattle.sheet.specs.Lines.{checked, drawn_of}
 use Rattle.sheet.specs.Places.{has}
-use Rattle.sheet.proofs.PlaceSets.{some_has}
 use Rattle.sheet.specs.Rules.{range_at, at_rest}
 use Rattle.promise.proofs.Declining.{called_declined}
 use Rattle.promise.proofs.Recounting.{after_sound, entering_off, entering_own, striking_off, striking_own}
 use Rattle.promise.proofs.Alone.{unchanged_alone, alone_unchanged}
-use Rattle.promise.proofs.Progress.{due, step_inside, step_idle}
-use Rattle.promise.proofs.Remade.{passing, remade}
-use Rattle.promise.proofs.Stepping.{line_of}
+use Rattle.promise.proofs.Progress.{due, line, step_inside, step_idle}
+use Rattle.promise.proofs.Remade.{passing}
+use Rattle.promise.proofs.Stepping.{line_again}
 use Rattle.promise.proofs.Sounds.{Fixed, apart}
 use Rattle.promise.proofs.Unmoving.{unchanged, unmoved, within_then}
 
@@ -84,11 +82,8 @@ module _ (m : Meaning) (laws : Laws m) where
   shown_busy : (h : List Call) → (after m h).state ≡ Open → (n : ℕ) × ((l : Line) × ((line_at h n ≡ Some l) × (has (after m h).due n ≡ true)))
   shown_busy h e =
       let s = after_sound m laws h in
-      let on = s.live (ap is_void e) in
-      let line : (k : ℕ) → has (after m h).due k ≡ true → (l : Line) × (line_at h k ≡ Some l) = λ k d. line_of (line_at h) (after m h) s.shape k (on.due k d) in
-      let due = some_has (after m h).due (λ k d. let l = line k d in (s.shape.there k l.0 l.1).place) (s.busy e) in
-      let l = line due.0 due.1 in
-      (due.0, (l.0, (l.1, due.1)))
+      let l = line m laws (limits_of m h) (line_at h) (after m h) s e in
+      (_, (l.0, (l.1, due m laws (limits_of m h) (line_at h) (after m h) s e)))
 
   shown_limits : (h : List Call) → (after m h).state ≡ Settled → InLimits m h (range_at (after m h))
   shown_limits h e = ((after_sound m laws h).live (ap is_void e)).within
@@ -101,7 +96,7 @@ module _ (m : Meaning) (laws : Laws m) where
         in_limits = λ ne. (s.live (not_void (after m h).state ne)).within;
         greatest = λ ne σ c i. (s.live (not_void (after m h).state ne)).kept σ (set_fixed h σ c i);
         there = λ n l e. let f = s.shape.there n l e in
-            (has_line (ltb 63 n) (has (after m h).standing n) (le-ltb 63 n (omega (arith, f.place))) f.stands, ap (λ w. checked (drawn_of w)) f.row ∙ remade l f.passes);
+            (has_line (ltb 63 n) (has (after m h).standing n) (le-ltb 63 n (omega (arith, f.place))) f.stands, line_again (after m h) n l f);
         free = λ n e. has_none (ltb 63 n) (has (after m h).standing n) (s.shape.free n e);
         calm = s.calm;
         busy = shown_busy h;

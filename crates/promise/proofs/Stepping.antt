@@ -20,7 +20,7 @@ use Rattle.promise.proofs.Cutting.{shape_same, cut_live, cut_none, cut_self, cut
 use Rattle.sheet.proofs.PlaceSets.{without_here, without_other, lowest_in}
 use Rattle.promise.proofs.Remade.{Passes, passing, remade}
 use Rattle.promise.proofs.Resting.{rested_sound, voided_sound}
-use Rattle.promise.proofs.Sounds.{Drawn, Fixed, Shape, Limited, Live, Sound, apart}
+use Rattle.promise.proofs.Sounds.{Drawn, Fixed, Shape, Stands, Limited, Live, Sound, apart}
 use Rattle.promise.proofs.Unmoving.{Unmoved, Stays, within_some}
 
 -- the line that stands at a place
@@ -30,6 +30,14 @@ line_of at t shape n st = by (at n) refl
     by : (o : Option Line) → at n ≡ o → (l : Line) × (at n ≡ Some l)
     by None e = absurd (both_ways (has t.standing n) (shape.free n e) st)
     by (Some l) e = (l, e)
+
+-- and is read again from its row
+pub line_again : (t : Table) (n : ℕ) (l : Line) → Stands t n l → checked (drawn_of (row_at t n)) ≡ Ok l
+line_again t n l s = ap (λ w. checked (drawn_of w)) s.row ∙ remade l s.passes
+
+-- where a line stands is one of the places
+pub due_place : (at : Drawn) (t : Table) → Shape at t → (n : ℕ) → has t.standing n ≡ true → n < 64
+due_place at t s n h = let f = line_of at t s n h in (s.there n f.0 f.1).place
 
 pub limited_same : (m : Meaning) (limits-to : Ranges) (t u : Table) → u.limits ≡ t.limits → Limited m limits-to t → Limited m limits-to u
 limited_same m limits-to t u e h = record {
@@ -165,16 +173,14 @@ module _ (m : Meaning) (laws : Laws m) (limits-to : Ranges) (at : Drawn) where
         let f = line_of at t on.shape n (on.due n due) in
         let l = f.0 in
         let s = on.shape.there n l f.1 in
-        let again : checked (drawn_of (row_at t n)) ≡ Ok l = ap (λ w. checked (drawn_of w)) s.row ∙ remade l s.passes in
-        subst (λ c. Good (step_line m c waiting)) (sym again)
+        subst (λ c. Good (step_line m c waiting)) (sym (line_again t n l s))
         (narrowed_sound m limits-to at n l f.1 waiting laws (passing l s.passes) waiting_live (limited_same m limits-to t waiting refl sound.limited))
 
   step_at_sound : (t : Table) → Good t → is_void t.state ≡ false → (o : Option ℕ) → lowest t.due ≡ o → Good (step_at m o t)
   step_at_sound t sound live None e = sound
   step_at_sound t sound live (Some n) e =
       let on = sound.live live in
-      let below : (k : ℕ) → has t.due k ≡ true → k < 64 = λ k d. let f = line_of at t on.shape k (on.due k d) in (on.shape.there k f.0 f.1).place in
-      line_sound t sound live n (lowest_in t.due n below e)
+      line_sound t sound live n (lowest_in t.due n (λ k d. due_place at t on.shape k (on.due k d)) e)
 
   react_step_sound : (t : Table) → Good t → (s : State) → t.state ≡ s → Good (reacted m s Step t)
   react_step_sound t sound Settled e = sound

@@ -95,10 +95,6 @@ set_below s h =
     high : (i : ℕ) → has s (64 + i) ≡ false
     high i = ⊎_elim (λ e. let lt = h (64 + i) e in absurd (omega arith)) (λ e. e) (cases_Bool (has s (64 + i)))
 
--- a set of places below 64 that is not empty has a place
-pub some_has : (s : Places) → ((k : ℕ) → has s k ≡ true → k < 64) → is_none s ≡ false → (n : ℕ) × (has s n ≡ true)
-some_has s h e = (count_trailing_zeros 64 s.bits, (lowest_words s e (set_below s h)).1)
-
 pub lowest_in : (s : Places) (n : ℕ) → ((k : ℕ) → has s k ≡ true → k < 64) → lowest s ≡ Some n → has s n ≡ true
 lowest_in s n h e = ⊎_elim
     (λ d. let k = sym (cond-true (is_none s) None (Some (count_trailing_zeros 64 s.bits)) d) ∙ e in absurd cc)

@@ -144,6 +144,7 @@ impl Case {
 }
 
 impl Agreement {
+    /// Whether all of the case agrees.
     fn is_whole(&self) -> bool {
         self.exactness && !self.results.contains(&false)
     }
