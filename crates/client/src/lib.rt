@@ -8,7 +8,9 @@ ghost use Rattle.client.specs.Clients.{peeked, stepped};
 ghost use Rattle.counters.specs.Counters.{counter};
 ghost use Rattle.sheet.specs.Calls.{drawn_asked, drawn_table};
 ghost use Rattle.sheet.specs.Lines.{checked};
+ghost use Rattle.sheet.specs.Rules.{new_table};
 
+use catalogue::interface::Catalogue;
 use catalogue::types::{Range, Refusal};
 use counters::counter::Counter;
 // `CheckedLine` is for the texts of `refused/`, which are put behind this file one at a time.
@@ -32,4 +34,26 @@ pub fn peek_and_step(sheet: &mut Sheet<Counter>, register: u32) -> Result<Range,
     let range = look.range(register)?;
     let _ = sheet.settle(1);
     Ok(range)
+}
+
+/// Two sheets change places: each still has its own history.
+pub fn exchanged<C: Catalogue>(a: &mut Sheet<C>, b: &mut Sheet<C>)
+    ensures one { a.new ≡ b.old }
+    ensures other { b.new ≡ a.old }
+{
+    std::mem::swap(a, b);
+}
+
+/// A new sheet in place of an old one.
+pub fn renewed<C: Catalogue + Drop>(sheet: &mut Sheet<C>, catalogue: C)
+    ensures { sheet.new.table ≡ new_table (C.meaning catalogue) }
+{
+    *sheet = Sheet::new(catalogue);
+}
+
+/// A sheet taken out, with a new one in its place.
+pub fn taken<C: Catalogue>(sheet: &mut Sheet<C>, catalogue: C) -> Sheet<C>
+    ensures { result ≡ sheet.old }
+{
+    std::mem::replace(sheet, Sheet::new(catalogue))
 }

@@ -1,7 +1,7 @@
 -- A limit, an enter and a strike that are carried out leave a sound table.
-use Rattle.std.proofs.Common.{◌≡◌, ℕ, ◌<◌, true, false, ◌≢◌, set, Some, None, sym, refl, ap, ◌∙◌, subst, ⊎_elim, arith}
+use Rattle.std.proofs.Common.{◌≡◌, ℕ, ◌<◌, true, false, ◌≢◌, set, is_some, Some, None, sym, refl, ap, ◌∙◌, subst, ⊎_elim, arith}
 use lib.Signed.{le_z}
-use Rattle.std.proofs.lemmas.List.{length-set}
+use Rattle.std.proofs.lemmas.List.{get_or-set_same, get_or-set_other, length-set}
 use Rattle.std.proofs.lemmas.Bool.{cases_eq, both_ways, cond_both, and_parts}
 use Rattle.catalogue.proofs.Rising.{le_true}
 use Rattle.catalogue.specs.declared.types.Range.{Range}
@@ -19,10 +19,10 @@ use Rattle.promise.specs.Promise.{Ranges}
 use Rattle.sheet.specs.Rules.{no_range, range_at, limits_at, cut_table, cut_to_limits, or_void, with_limits, limited, placed, entered, removed, struck, reacted, made_due, returned}
 use Rattle.promise.proofs.Cutting.{shape_same, cut_live, cut_none, cut_within, cut_limits}
 use Rattle.sheet.proofs.PlaceSets.{not_none, with_here, with_other}
-use Rattle.promise.proofs.Placing.{placed_shape, removed_shape, removed_limits}
+use Rattle.promise.proofs.Placing.{placed_shape, removed_shape}
 use Rattle.promise.proofs.Resting.{rested_sound, voided_sound, returned_sound}
 use Rattle.promise.proofs.Setting.{at_each}
-use Rattle.promise.proofs.Sounds.{Drawn, Fixed, Stands, Shape, Limited, Live, Sound, nowhere}
+use Rattle.promise.proofs.Sounds.{Drawn, Fixed, Stands, stands_at, Shape, Limited, Live, Sound, nowhere}
 use Rattle.promise.proofs.Stepping.{limited_same}
 use Rattle.promise.proofs.Unmoving.{within_then}
 
@@ -51,7 +51,7 @@ module _ (m : Meaning) (old new : Ranges) (at : Drawn) (t : Table) (sound : Soun
       }
 
   reset_shape : Shape at reset
-  reset_shape = shape_same at t reset (record { rows = refl; standing = refl; naming = refl }) sound.shape
+  reset_shape = shape_same at t reset refl sound.shape
 
   -- limits inside the old ones
   module _ (smaller : Within b (old r)) where
@@ -127,7 +127,7 @@ module _ (m : Meaning) (limits-to : Ranges) (at now : Drawn) (t : Table) (sound 
   more = placed n l t
 
   more_shape : Shape now more
-  more_shape = placed_shape at now n l t sound.shape lt passes own off empty
+  more_shape = placed_shape at now n l t sound.shape lt off passes own
 
   without_it : (σ : Ranges) → Fixed m limits-to now σ → Fixed m limits-to at σ
   without_it σ c = record {
@@ -154,7 +154,7 @@ module _ (m : Meaning) (limits-to : Ranges) (at now : Drawn) (t : Table) (sound 
   enter_live v =
       let on = sound.live v in
       let u = made_due n more in
-      let shape : Shape now u = shape_same now more u (record { rows = refl; standing = refl; naming = refl }) more_shape in
+      let shape : Shape now u = shape_same now more u refl more_shape in
       record {
         shape = shape;
         limited = limited_same m limits-to t u refl sound.limited;
@@ -165,8 +165,8 @@ module _ (m : Meaning) (limits-to : Ranges) (at now : Drawn) (t : Table) (sound 
           wide = sound.wide;
           shape = shape;
           due = λ k d. ⊎_elim
-              (λ (f : k ≡ n). subst (λ q. has (with_place n t.standing) q ≡ true) (sym f) (with_here n t.standing))
-              (λ (ne : k ≢ n). with_other n t.standing k ne ∙ on.due k (sym (with_other n t.due k ne) ∙ d))
+              (λ (f : k ≡ n). subst (λ q. stands_at more q ≡ true) (sym f) (ap is_some (get_or-set_same t.lines n (Some l) None (omega (arith, sound.shape.places)))))
+              (λ (ne : k ≢ n). ap is_some (get_or-set_other t.lines n k (Some l) None ne) ∙ on.due k (sym (with_other n t.due k ne) ∙ d))
               (cases_eq k n);
           kept = λ σ c. on.kept σ (without_it σ c);
           proper = on.proper;
@@ -190,7 +190,7 @@ module _ (m : Meaning) (limits-to : Ranges) (at now : Drawn) (t : Table) (sound 
 -- ---- a line struck
 module _ (m : Meaning) (limits-to : Ranges) (at now : Drawn) (t : Table) (sound : Sound m limits-to at t) (n : ℕ) (l : Line) (here : at n ≡ Some l) (own : now n ≡ None) (off : (k : ℕ) → (k ≡ n → ⊥) → now k ≡ at k) where
   strike_as : (s : State) → Sound m limits-to now (reacted m s Struck (removed n t))
-  strike_as s = by s (returned_sound m limits-to now (removed n t) (limited_same m limits-to t (removed n t) (removed_limits n l t stands) sound.limited) (removed_shape n l t stands at now sound.shape own off))
+  strike_as s = by s (returned_sound m limits-to now (removed n t) (limited_same m limits-to t (removed n t) refl sound.limited) (removed_shape at now n l t sound.shape stands.place off own))
     where
       stands : Stands t n l
       stands = sound.shape.there n l here

@@ -1,10 +1,10 @@
 -- A declined call leaves the table as it was.
-use Rattle.std.proofs.Common.{◌≡◌, ℕ, Bool, true, false, cond, not, ◌||◌, ltb, Ok, Err, Result, refl}
+use Rattle.std.proofs.Common.{◌≡◌, ℕ, Bool, true, false, cond, not, ◌||◌, ltb, is_some, Ok, Err, Result, refl}
 use Rattle.catalogue.specs.declared.types.Range.{Range}
 use Rattle.catalogue.specs.Meanings.{Meaning}
 use Rattle.sheet.specs.declared.table.Table.{Table}
 use Rattle.sheet.specs.Calls.{bad_budget, limit_asked, limit_table, no_line}
-use Rattle.sheet.specs.Places.{has}
+use Rattle.sheet.specs.Boards.{line_at as at_place}
 use Rattle.sheet.specs.Rules.{entered, settled, struck}
 use Rattle.promise.specs.Histories.{Call, limit, enter, strike, settle, look, partner, called, declines, is_refusal, passes_check}
 
@@ -24,7 +24,7 @@ not_carried_out false n a t u e = absurd cc
 
 pub called_declined : (m : Meaning) (k : Call) (t : Table) → declines m k t ≡ true → called m k t ≡ t
 called_declined m (limit r low high) t e = no_limits m r (limit_asked m r low high) t e
-called_declined m (enter n l) t e = no_line_entered (passes_check l) (ltb 63 n) (has t.standing n) t (entered m n l t) e
+called_declined m (enter n l) t e = no_line_entered (passes_check l) (ltb 63 n) (is_some (at_place t.lines n)) t (entered m n l t) e
 called_declined m (strike n) t e = not_carried_out (no_line n t) 7 tt t (struck m n t) e
 called_declined m (settle b) t e = not_carried_out (bad_budget b) 8 _ t (settled m b t).table e
 called_declined m (look r) t e = refl

@@ -2,8 +2,6 @@
 -- a line made again from its row (Remade); ranges that a line leaves as they are (Unmoving, Alone); the invariant (Sounds), kept by cuts,
 -- steps and calls (Cutting, Resting, Stepping, Placing, Changing); and so after every history (Recounting, Declining, Promised); and what a step gains (Progress).
 pub mod Setting
-pub mod Index
-pub mod Indexes
 pub mod Remade
 pub mod Unmoving
 pub mod Sounds

@@ -1,5 +1,5 @@
 -- The promise, kept: a settled sheet shows the greatest consistent set within its limits, and sheets with the same limits and lines come to the same rest.
-use Rattle.std.proofs.Common.{◌≡◌, ℕ, ◌<◌, Bool, true, false, not, ◌||◌, ltb, ◌≢◌, List, [], ◌∷◌, ℤ, Some, None, Option, sym, refl, ap, ◌∙◌, subst, inl, inr, ⊎_elim, arith}
+use Rattle.std.proofs.Common.{◌≡◌, ℕ, ◌<◌, Bool, true, false, not, ◌||◌, ltb, ◌≢◌, List, [], ◌∷◌, is_some, ℤ, Some, None, Option, sym, refl, ap, ◌∙◌, subst, inl, inr, ⊎_elim, arith}
 use Rattle.std.proofs.lemmas.Int.{ints}
 use Rattle.std.proofs.lemmas.Bool.{cases_eq, both_ways, le-ltb}
 use Rattle.catalogue.specs.declared.types.Triple.{Triple}
@@ -21,7 +21,7 @@ use Rattle.promise.proofs.Alone.{unchanged_alone, alone_unchanged}
 use Rattle.promise.proofs.Progress.{due, line, step_inside, step_idle}
 use Rattle.promise.proofs.Remade.{passing}
 use Rattle.promise.proofs.Stepping.{line_again}
-use Rattle.promise.proofs.Sounds.{Fixed, apart}
+use Rattle.promise.proofs.Sounds.{Fixed, apart, stands_at}
 use Rattle.promise.proofs.Unmoving.{unchanged, unmoved, within_then}
 
 has_line : (far here : Bool) → far ≡ false → here ≡ true → (far || not here) ≡ false
@@ -96,8 +96,8 @@ module _ (m : Meaning) (laws : Laws m) where
         in_limits = λ ne. (s.live (not_void (after m h).state ne)).within;
         greatest = λ ne σ c i. (s.live (not_void (after m h).state ne)).kept σ (set_fixed h σ c i);
         there = λ n l e. let f = s.shape.there n l e in
-            (has_line (ltb 63 n) (has (after m h).standing n) (le-ltb 63 n (omega (arith, f.place))) f.stands, line_again (after m h) n l f);
-        free = λ n e. has_none (ltb 63 n) (has (after m h).standing n) (s.shape.free n e);
+            (has_line (ltb 63 n) (stands_at (after m h) n) (le-ltb 63 n (omega (arith, f.place))) (ap is_some f.row), line_again (after m h) n l f);
+        free = λ n e. has_none (ltb 63 n) (stands_at (after m h) n) (ap is_some (s.shape.free n e));
         calm = s.calm;
         busy = shown_busy h;
         void_none = λ e σ c i. s.void (ap is_void e) σ (set_fixed h σ c i);

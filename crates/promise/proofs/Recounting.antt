@@ -16,9 +16,9 @@ use Rattle.sheet.specs.Places.{has, none}
 use Rattle.promise.specs.Promise.{Ranges}
 use Rattle.sheet.specs.Rules.{at_rest, no_range, new_table, entered, struck, settled}
 use Rattle.promise.proofs.Changing.{limited_sound, entered_sound, struck_sound}
-use Rattle.promise.proofs.Indexes.{new_indexed}
+use Rattle.sheet.proofs.Boards.{no_lines as no_place_has}
 use Rattle.sheet.proofs.PlaceSets.{none_has}
-use Rattle.promise.proofs.Sounds.{Drawn, Shape, Sound}
+use Rattle.promise.proofs.Sounds.{Drawn, Shape, Sound, stands_at}
 use Rattle.promise.proofs.Stepping.{line_of, settled_sound}
 use Rattle.promise.proofs.Unmoving.{within_self}
 
@@ -32,10 +32,9 @@ module _ (m : Meaning) (laws : Laws m) where
 
   new_shape : Shape no_lines (new_table m)
   new_shape = record {
-    indexed = new_indexed m;
-    named = λ r n lt e. absurd (both_ways (has (get_or (replicate 32 none) r none) n) (ap (λ p. has p n) (get_or-replicate 32 r none none lt) ∙ none_has none refl n) e);
+    places = refl;
     there = λ n l e. absurd cc;
-    free = λ n _. none_has none refl n;
+    free = λ n _. no_place_has n;
   }
 
   new_at : (r : ℕ) → r < 32 → get_or (replicate 32 (all_readings m)) r no_range ≡ all_readings m
@@ -51,7 +50,7 @@ module _ (m : Meaning) (laws : Laws m) where
     live = λ _. record {
       wide = refl;
       shape = new_shape;
-      due = λ k d. d;
+      due = λ k d. absurd (both_ways (has none k) (none_has none refl k) d);
       kept = λ σ c r lt. subst (Within (σ r)) (sym (new_at r lt)) (c.limits r lt);
       proper = λ r lt. subst Proper (sym (new_at r lt)) laws.ends;
       within = λ r lt. subst (λ v. Within v (all_readings m)) (sym (new_at r lt)) (within_self (all_readings m));
@@ -135,27 +134,27 @@ module _ (m : Meaning) (limits-to : Ranges) (at : Drawn) (t : Table) (sound : So
       let Good : Table → Type 0 = Sound m limits-to (entering n l at) in
       let same : wanted n l at n ≡ false → Good t = λ h. subst (λ f. Sound m limits-to f t) (declined n l at h) sound in
       cond_both (passes_check l) (line_table m n l t) t Good
-      (λ p. cond_both (ltb 63 n || has t.standing n) t (entered m n l t) Good
+      (λ p. cond_both (ltb 63 n || stands_at t n) t (entered m n l t) Good
       (λ h. same (⊎_elim
       (λ (far : ltb 63 n ≡ true). let f = ltb-true 63 n far in and_left (eqb n n && ltb n 64) _ (and_right (eqb n n) (ltb n 64) (le-ltb n 64 (omega arith))))
-      (λ (taken : has t.standing n ≡ true).
+      (λ (taken : stands_at t n ≡ true).
       let j = line_of at t sound.shape n taken in
       and_right (eqb n n && ltb n 64) _ (and_right (passes_check l) (not (is_some (at n))) (ap (λ o. not (is_some o)) j.1)))
-      (or_cases (ltb 63 n) (has t.standing n) h)))
+      (or_cases (ltb 63 n) (stands_at t n) h)))
       (λ h.
-      let parts = or_parts (ltb 63 n) (has t.standing n) h in
+      let parts = or_parts (ltb 63 n) (stands_at t n) h in
       let le : n ≤ 63 = ltb-false 63 n parts.0 in
       let lt : n < 64 = omega arith in
       let empty : at n ≡ None = none_at n parts.1 in
       entered_sound m limits-to at (entering n l at) t sound n l lt p empty (entering_own n l at lt p empty) (entering_off n l at)))
       (λ p. same (and_right (eqb n n && ltb n 64) _ (and_left (passes_check l) (not (is_some (at n))) p)))
     where
-      none_at : (n : ℕ) → has t.standing n ≡ false → at n ≡ None
+      none_at : (n : ℕ) → stands_at t n ≡ false → at n ≡ None
       none_at n h = by (at n) refl
         where
           by : (o : Option Line) → at n ≡ o → at n ≡ None
           by None e = e
-          by (Some j) e = absurd (both_ways (has t.standing n) h (sound.shape.there n j e).stands)
+          by (Some j) e = absurd (both_ways (stands_at t n) h (ap is_some (sound.shape.there n j e).row))
 
   strike_sound : (n : ℕ) → Sound m limits-to (striking n at) (strike_table m n t)
   strike_sound n = cond_both (no_line n t) t (struck m n t) (Sound m limits-to (striking n at))
@@ -164,8 +163,8 @@ module _ (m : Meaning) (limits-to : Ranges) (at : Drawn) (t : Table) (sound : So
       (λ (ne : k ≢ n). sym (striking_off n at k ne))
       (cases_eq k n))) sound)
       (λ h.
-      let parts = or_parts (ltb 63 n) (not (has t.standing n)) h in
-      let j = line_of at t sound.shape n (not-false (has t.standing n) parts.1) in
+      let parts = or_parts (ltb 63 n) (not (stands_at t n)) h in
+      let j = line_of at t sound.shape n (not-false (stands_at t n) parts.1) in
       struck_sound m limits-to at (striking n at) t sound n j.0 j.1 (striking_own n at) (striking_off n at))
     where
       none_at : no_line n t ≡ true → at n ≡ None
@@ -178,8 +177,8 @@ module _ (m : Meaning) (limits-to : Ranges) (at : Drawn) (t : Table) (sound : So
               let near : ltb 63 n ≡ false = le-ltb 63 n (omega (arith, s.place)) in
               ⊎_elim
               (λ d. absurd (both_ways (ltb 63 n) near d))
-              (λ d. absurd (both_ways (has t.standing n) (not-true (has t.standing n) d) s.stands))
-              (or_cases (ltb 63 n) (not (has t.standing n)) h)
+              (λ d. absurd (both_ways (stands_at t n) (not-true (stands_at t n) d) (ap is_some s.row)))
+              (or_cases (ltb 63 n) (not (stands_at t n)) h)
 
 -- ---- every history
 module _ (m : Meaning) (laws : Laws m) where

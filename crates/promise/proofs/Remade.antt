@@ -1,8 +1,7 @@
 -- A line that passes the check is made again from its row; and a checked line passes the check.
-use Rattle.std.proofs.Common.{◌≡◌, ℕ, ◌<◌, true, false, cond, ◌&&◌, ◌||◌, eqb, ltb, Some, None, Ok, Err, Option, Result, refl, ap, ◌∙◌, arith}
-use Rattle.std.proofs.lemmas.Bool.{and_parts, and_from, or_parts, or_from, cond_both, cond-true, cond-false, eqb-false, ltb-true, ltb-false, lt-ltb, le-ltb, ne_eqb}
+use Rattle.std.proofs.Common.{◌≡◌, ℕ, ◌<◌, true, cond, ◌&&◌, ◌||◌, eqb, ltb, Some, None, Ok, Err, Option, Result, arith}
+use Rattle.std.proofs.lemmas.Bool.{and_parts, and_from, or_parts, cond_both, cond-true, eqb-false, ltb-true, ltb-false, lt-ltb}
 use Rattle.catalogue.specs.declared.types.Kind.{Kind}
-use Rattle.catalogue.specs.declared.types.Kind.TheVariants.{Sum, Difference, Peak}
 use Rattle.sheet.specs.declared.lines.CheckedLine.{CheckedLine}
 use Rattle.sheet.specs.declared.lines.DrawnLine.{DrawnLine}
 use Rattle.sheet.specs.declared.lines.Line.{Line}
@@ -10,8 +9,8 @@ use Rattle.sheet.specs.declared.table.Table.{Table}
 use Rattle.catalogue.specs.Meanings.{Meaning}
 use Rattle.sheet.specs.Calls.{line_table, enter_table}
 use Rattle.promise.specs.Histories.{enter, passes_check, called}
-use Rattle.catalogue.specs.Numbers.{kind_number, kind_of}
-use Rattle.sheet.specs.Lines.{checked_kind, checked, row_of, drawn_of}
+use Rattle.catalogue.specs.Numbers.{kind_of}
+use Rattle.sheet.specs.Lines.{checked_kind, checked}
 
 pub record Passes (l : Line) : Type 0 where
   pub some : 0 < l.operation.modes.bits
@@ -28,26 +27,6 @@ passing l h =
     let c = and_parts (ltb l.x 32) (ltb l.y 32 && ltb l.z 32) a.1 in
     let d = and_parts (ltb l.y 32) (ltb l.z 32) c.1 in
     record { some = ltb-true 0 s b.0; few = ltb-true s 16 b.1; x = ltb-true l.x 32 c.0; y = ltb-true l.y 32 d.0; z = ltb-true l.z 32 d.1 }
-
-kind_again : (k : Kind) → kind_of (kind_number k) ≡ Some k
-kind_again Sum = refl
-kind_again Difference = refl
-kind_again Peak = refl
-
-pub remade : (l : Line) → passes_check l ≡ true → checked (drawn_of (row_of l)) ≡ Ok l
-remade l h =
-    let p = passing l h in
-    let s = l.operation.modes.bits in
-    let d = drawn_of (row_of l) in
-    let bad-modes : (eqb s 0 || ltb 15 s) ≡ false = or_from (eqb s 0) (ltb 15 s) (ne_eqb s 0 (λ e. omega (arith, p.some, e))) (le-ltb 15 s (omega (arith, p.few))) in
-    let bad-x : ltb 31 l.x ≡ false = le-ltb 31 l.x (omega (arith, p.x)) in
-    let bad-y : ltb 31 l.y ≡ false = le-ltb 31 l.y (omega (arith, p.y)) in
-    let bad-z : ltb 31 l.z ≡ false = le-ltb 31 l.z (omega (arith, p.z)) in
-    let bad : (ltb 31 l.x || (ltb 31 l.y || ltb 31 l.z)) ≡ false = or_from (ltb 31 l.x) _ bad-x (or_from (ltb 31 l.y) (ltb 31 l.z) bad-y bad-z) in
-    let here : Result Line ℕ = cond (ltb 31 l.x || (ltb 31 l.y || ltb 31 l.z)) (Err 1) (Ok l) in
-    ap (λ k. checked_kind k d) (kind_again l.operation.kind)
-    ∙ cond-false (eqb s 0 || ltb 15 s) (Err 5) here bad-modes
-    ∙ cond-false (ltb 31 l.x || (ltb 31 l.y || ltb 31 l.z)) (Err 1) (Ok l) bad
 
 -- a checked line passes the check, so that an enter of one is the call of a history
 pub checked_passes : (c : CheckedLine) → passes_check c.line ≡ true

@@ -1,5 +1,5 @@
 -- Tables put to rest, made void, and returned to their limits are sound.
-use Rattle.std.proofs.Common.{◌≡◌, Bool, true, false, cond, sym, refl, ap, subst}
+use Rattle.std.proofs.Common.{◌≡◌, Bool, true, false, cond, is_some, ◌∙◌, sym, refl, ap, subst}
 use Rattle.std.proofs.lemmas.Bool.{both_ways}
 use Rattle.catalogue.specs.Meanings.{Meaning}
 use Rattle.catalogue.specs.Ranges.{Within, Proper}
@@ -9,6 +9,8 @@ use Rattle.sheet.specs.Calls.{is_void}
 use Rattle.sheet.specs.Places.{has, none, is_none}
 use Rattle.promise.specs.Promise.{Ranges}
 use Rattle.sheet.specs.Rules.{at_rest, rested, voided, returned, with_due, with_ranges}
+use Rattle.sheet.specs.Boards.{standing_of}
+use Rattle.sheet.proofs.Boards.{has_of}
 use Rattle.promise.proofs.Cutting.{shape_same}
 use Rattle.sheet.proofs.PlaceSets.{none_has}
 use Rattle.promise.proofs.Sounds.{Drawn, Fixed, Shape, Limited, Live, Sound, nowhere}
@@ -29,7 +31,7 @@ rested_busy false h = refl
 module _ (m : Meaning) (limits-to : Ranges) (at : Drawn) where
   pub rested_sound : (t : Table) → Limited m limits-to t → Live m (Fixed m limits-to at) limits-to at nowhere t → Sound m limits-to at (rested t)
   rested_sound t lim on =
-      let shape : Shape at (rested t) = shape_same at t (rested t) (record { rows = refl; standing = refl; naming = refl }) on.shape in
+      let shape : Shape at (rested t) = shape_same at t (rested t) refl on.shape in
       record {
         shape = shape;
         limited = record { long = lim.long; same = lim.same; proper = lim.proper; readings = lim.readings };
@@ -42,7 +44,7 @@ module _ (m : Meaning) (limits-to : Ranges) (at : Drawn) where
 
   pub voided_sound : (t : Table) → Limited m limits-to t → Shape at t → ((σ : Ranges) → Fixed m limits-to at σ → ⊥) → Sound m limits-to at (voided t)
   voided_sound t lim shape never = record {
-    shape = shape_same at t (voided t) (record { rows = refl; standing = refl; naming = refl }) shape;
+    shape = shape_same at t (voided t) refl shape;
     limited = record { long = lim.long; same = lim.same; proper = lim.proper; readings = lim.readings };
     wide = lim.long;
     calm = λ _. none_has none refl;
@@ -53,13 +55,13 @@ module _ (m : Meaning) (limits-to : Ranges) (at : Drawn) where
 
   pub returned_sound : (t : Table) → Limited m limits-to t → Shape at t → Sound m limits-to at (returned t)
   returned_sound t lim shape =
-      let u = with_due t.standing (with_ranges t.limits t) in
+      let u = with_due (standing_of t.lines) (with_ranges t.limits t) in
       rested_sound u (record { long = lim.long; same = lim.same; proper = lim.proper; readings = lim.readings }) (record {
         wide = lim.long;
-        shape = shape_same at t u (record { rows = refl; standing = refl; naming = refl }) shape;
-        due = λ k d. d;
+        shape = shape_same at t u refl shape;
+        due = λ k d. sym (has_of is_some refl t.lines k) ∙ d;
         kept = λ σ c r lt. subst (Within (σ r)) (sym (lim.same r lt)) (c.limits r lt);
         proper = λ r lt. subst Proper (sym (lim.same r lt)) (lim.proper r lt);
         within = λ r lt. subst (λ v. Within v (limits-to r)) (sym (lim.same r lt)) (within_self (limits-to r));
-        quiet = λ k l _ e d. absurd (both_ways (has t.standing k) d (shape.there k l e).stands);
+        quiet = λ k l _ e d. absurd (both_ways (has (standing_of t.lines) k) d (has_of is_some refl t.lines k ∙ ap is_some (shape.there k l e).row));
       })

@@ -1,5 +1,5 @@
 -- The invariant: what holds of the table of every sheet, by its lines and its limits.
-use Rattle.std.proofs.Common.{◌≡◌, ℕ, ◌<◌, true, false, length, Some, None, Option, arith}
+use Rattle.std.proofs.Common.{◌≡◌, ℕ, ◌<◌, Bool, true, false, length, is_some, Some, None, Option, arith}
 use Rattle.catalogue.specs.Meanings.{Meaning, all_readings}
 use Rattle.catalogue.specs.Ranges.{Within, Proper}
 use Rattle.sheet.specs.declared.lines.Line.{Line}
@@ -7,11 +7,10 @@ use Rattle.sheet.specs.declared.table.State.TheVariants.{Open}
 use Rattle.sheet.specs.declared.table.Table.{Table}
 use Rattle.sheet.specs.Calls.{is_void}
 use Rattle.promise.specs.Histories.{passes_check}
-use Rattle.promise.proofs.Index.{Indexed}
-use Rattle.sheet.specs.Lines.{row_of}
+use Rattle.sheet.specs.Boards.{line_at as at_place}
 use Rattle.sheet.specs.Places.{has, is_none}
 use Rattle.promise.specs.Promise.{Ranges, Inside}
-use Rattle.sheet.specs.Rules.{row_at, range_at, limits_at, naming_at, at_rest}
+use Rattle.sheet.specs.Rules.{range_at, limits_at, at_rest}
 use Rattle.promise.proofs.Unmoving.{Unmoved}
 
 -- the line at each place
@@ -24,19 +23,21 @@ pub record Fixed (m : Meaning) (limits-to : Ranges) (at : Drawn) (σ : Ranges) :
   pub limits : Inside σ limits-to
   pub unmoved : (n : ℕ) (l : Line) → at n ≡ Some l → Unmoved m σ l
 
+-- whether a line stands at a place
+abbrev pub stands_at : Table → ℕ → Bool
+stands_at t n = is_some (at_place t.lines n)
+
 -- a table holds a line at a place
 pub record Stands (t : Table) (n : ℕ) (l : Line) : Type 0 where
   pub place : n < 64
-  pub stands : has t.standing n ≡ true
-  pub row : row_at t n ≡ row_of l
+  pub row : at_place t.lines n ≡ Some l
   pub passes : passes_check l ≡ true
 
 -- a table holds these lines and no others, and its index agrees
 pub record Shape (at : Drawn) (t : Table) : Type 0 where
-  pub indexed : Indexed t
-  pub named : (r n : ℕ) → r < 32 → has (naming_at t r) n ≡ true → n < 64
+  pub places : length t.lines ≡ 64
   pub there : (n : ℕ) (l : Line) → at n ≡ Some l → Stands t n l
-  pub free : (n : ℕ) → at n ≡ None → has t.standing n ≡ false
+  pub free : (n : ℕ) → at n ≡ None → at_place t.lines n ≡ None
 
 -- a table holds these limits, which are ranges of readings
 pub record Limited (m : Meaning) (limits-to : Ranges) (t : Table) : Type 0 where
@@ -49,7 +50,7 @@ pub record Limited (m : Meaning) (limits-to : Ranges) (t : Table) : Type 0 where
 pub record Live (m : Meaning) (kind : Ranges → Type 0) (top : Ranges) (at : Drawn) (n : ℕ) (t : Table) : Type 0 where
   pub wide : length t.ranges ≡ 32
   pub shape : Shape at t
-  pub due : (k : ℕ) → has t.due k ≡ true → has t.standing k ≡ true
+  pub due : (k : ℕ) → has t.due k ≡ true → stands_at t k ≡ true
   pub kept : (σ : Ranges) → kind σ → Inside σ (range_at t)
   pub proper : (r : ℕ) → r < 32 → Proper (range_at t r)
   pub within : Inside (range_at t) top

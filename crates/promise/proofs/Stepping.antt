@@ -1,5 +1,5 @@
 -- A step keeps a table sound, and so does a settle.
-use Rattle.std.proofs.Common.{◌≡◌, ℕ, zero, suc, ◌<◌, true, false, length, get_or, Some, None, Ok, Option, sym, refl, ap, ◌∙◌, subst, ⊎_elim}
+use Rattle.std.proofs.Common.{◌≡◌, ℕ, zero, suc, ◌<◌, true, false, length, get_or, is_some, Some, None, Option, sym, refl, ap, ◌∙◌, subst, ⊎_elim}
 use Rattle.std.proofs.lemmas.Bool.{both_ways, cases_eq, cond_both}
 use Rattle.catalogue.specs.declared.types.Range.{Range}
 use Rattle.catalogue.specs.declared.types.Triple.{Triple}
@@ -11,32 +11,31 @@ use Rattle.sheet.specs.declared.table.State.{State}
 use Rattle.sheet.specs.declared.table.State.TheVariants.{Settled, Open, Void}
 use Rattle.sheet.specs.declared.table.Table.{Table}
 use Rattle.sheet.specs.Calls.{is_void}
-use Rattle.promise.proofs.Index.{names}
-use Rattle.sheet.specs.Lines.{row_of, drawn_of, checked}
+use Rattle.sheet.specs.Boards.{line_at as at_place, names}
 use Rattle.sheet.specs.Places.{has, without, lowest}
 use Rattle.promise.specs.Promise.{Ranges, given_to}
-use Rattle.sheet.specs.Rules.{no_range, range_at, row_at, at_rest, cut_table, cut, then, given, absorbed, narrowed_by, or_void, step_line, step_at, reacted, settled, after_steps, with_due}
+use Rattle.sheet.specs.Rules.{no_range, range_at, at_rest, cut_table, cut, then, given, absorbed, narrowed_by, or_void, step_line, step_at, reacted, settled, after_steps, with_due}
 use Rattle.promise.proofs.Cutting.{shape_same, cut_live, cut_none, cut_self, cut_limits, names_x, names_y, names_z}
 use Rattle.sheet.proofs.PlaceSets.{without_here, without_other, lowest_in}
-use Rattle.promise.proofs.Remade.{Passes, passing, remade}
+use Rattle.promise.proofs.Remade.{Passes, passing}
 use Rattle.promise.proofs.Resting.{rested_sound, voided_sound}
-use Rattle.promise.proofs.Sounds.{Drawn, Fixed, Shape, Stands, Limited, Live, Sound, apart}
+use Rattle.promise.proofs.Sounds.{Drawn, Fixed, Shape, Stands, stands_at, Limited, Live, Sound, apart}
 use Rattle.promise.proofs.Unmoving.{Unmoved, Stays, within_some}
 
 -- the line that stands at a place
-pub line_of : (at : Drawn) (t : Table) → Shape at t → (n : ℕ) → has t.standing n ≡ true → (l : Line) × (at n ≡ Some l)
+pub line_of : (at : Drawn) (t : Table) → Shape at t → (n : ℕ) → stands_at t n ≡ true → (l : Line) × (at n ≡ Some l)
 line_of at t shape n st = by (at n) refl
   where
     by : (o : Option Line) → at n ≡ o → (l : Line) × (at n ≡ Some l)
-    by None e = absurd (both_ways (has t.standing n) (shape.free n e) st)
+    by None e = absurd (both_ways (stands_at t n) (ap is_some (shape.free n e)) st)
     by (Some l) e = (l, e)
 
 -- and is read again from its row
-pub line_again : (t : Table) (n : ℕ) (l : Line) → Stands t n l → checked (drawn_of (row_at t n)) ≡ Ok l
-line_again t n l s = ap (λ w. checked (drawn_of w)) s.row ∙ remade l s.passes
+pub line_again : (t : Table) (n : ℕ) (l : Line) → Stands t n l → at_place t.lines n ≡ Some l
+line_again t n l s = s.row
 
 -- where a line stands is one of the places
-pub due_place : (at : Drawn) (t : Table) → Shape at t → (n : ℕ) → has t.standing n ≡ true → n < 64
+pub due_place : (at : Drawn) (t : Table) → Shape at t → (n : ℕ) → stands_at t n ≡ true → n < 64
 due_place at t s n h = let f = line_of at t s n h in (s.there n f.0 f.1).place
 
 pub limited_same : (m : Meaning) (limits-to : Ranges) (t u : Table) → u.limits ≡ t.limits → Limited m limits-to t → Limited m limits-to u
@@ -63,7 +62,7 @@ module _ (m : Meaning) (limits-to : Ranges) (at : Drawn) (n : ℕ) (l : Line) (h
   Left W None = (σ : Ranges) → Set σ → ⊥
   Left W (Some u) = On u × Idle W u × (u.limits ≡ t.limits)
 
-  cut_left : (W : Type 0) (r : ℕ) (b : Range) → r < 32 → names r (row_of l) ≡ true → ((σ : Ranges) → Set σ → Within (σ r) b) → (u : Table) → On u → Idle W u → u.limits ≡ t.limits → Left (W × Within (range_at t r) b) (cut r b u)
+  cut_left : (W : Type 0) (r : ℕ) (b : Range) → r < 32 → names r (Some l) ≡ true → ((σ : Ranges) → Set σ → Within (σ r) b) → (u : Table) → On u → Idle W u → u.limits ≡ t.limits → Left (W × Within (range_at t r) b) (cut r b u)
   cut_left W r b lt nm bound u on idle lim = cond_both (empty (meet (range_at u r) b)) None (Some (cut_table r b u)) (Left (W × Within (range_at t r) b))
       (λ e. cut_none m Set limits-to at n u on r lt b bound (λ σ c. c.proper r lt) e)
       (λ e. (
@@ -159,7 +158,7 @@ module _ (m : Meaning) (laws : Laws m) (limits-to : Ranges) (at : Drawn) where
         let on = sound.live live in
         record {
           wide = on.wide;
-          shape = shape_same at t waiting (record { rows = refl; standing = refl; naming = refl }) on.shape;
+          shape = shape_same at t waiting refl on.shape;
           due = λ k d. on.due k (still k d).1;
           kept = on.kept;
           proper = on.proper;
@@ -167,7 +166,7 @@ module _ (m : Meaning) (laws : Laws m) (limits-to : Ranges) (at : Drawn) where
           quiet = λ k l ne e d. on.quiet k l (λ f. apart k (on.shape.there k l e).place f) e (sym (without_other n t.due k ne) ∙ d);
         }
 
-    line_sound : Good (step_line m (checked (drawn_of (row_at t n))) waiting)
+    line_sound : Good (step_line m (at_place t.lines n) waiting)
     line_sound =
         let on = sound.live live in
         let f = line_of at t on.shape n (on.due n due) in

@@ -4,31 +4,9 @@ use Rattle.catalogue.specs.declared.types.Range.{Range}
 use Rattle.catalogue.specs.Meanings.{Meaning, all_readings}
 use Rattle.sheet.specs.declared.lines.Line.{Line}
 use Rattle.sheet.specs.declared.table.Table.{Table}
+pub use Rattle.sheet.specs.Histories.{Call, limit, enter, strike, settle, look, partner, passes_check, called, after}
 use Rattle.promise.specs.Shown.{show_asked}
-use Rattle.sheet.specs.Calls.{drawn_asked, limit_asked, limit_table, line_table, partner_asked, settle_asked, settle_table, strike_asked, strike_table}
-use Rattle.sheet.specs.Rules.{new_table}
-
--- a call, with any arguments; limit and partner are given patterns, and enter a line, and look a register
-pub data Call : Type 0 where
-  limit : ℕ → ℕ → ℕ → Call
-  enter : ℕ → Line → Call
-  strike : ℕ → Call
-  settle : ℕ → Call
-  look : ℕ → Call
-  partner : ℕ → ℕ → ℕ → Call
-
--- what the check promises of a line; enter takes no other
-abbrev pub passes_check : Line → Bool
-passes_check l = (nat_lt 0 l.operation.modes.bits && nat_lt l.operation.modes.bits 16) && (nat_lt l.x 32 && (nat_lt l.y 32 && nat_lt l.z 32))
-
--- the table that a call leaves, carried out or declined
-abbrev pub called : Meaning → Call → Table → Table
-called m (limit r low high) t = limit_table m r (limit_asked m r low high) t
-called m (enter n l) t = cond (passes_check l) (line_table m n l t) t
-called m (strike n) t = strike_table m n t
-called m (settle b) t = settle_table m b t
-called m (look r) t = t
-called m (partner n x z) t = t
+use Rattle.sheet.specs.Calls.{drawn_asked, limit_asked, partner_asked, settle_asked, strike_asked}
 
 -- whether a call is declined; an enter is declined too where its line does not pass the check
 abbrev pub is_refusal : {A : Type 0} → Result A ℕ → Bool
@@ -42,11 +20,6 @@ declines m (strike n) t = is_refusal (strike_asked n t)
 declines m (settle b) t = is_refusal (settle_asked m b t)
 declines m (look r) t = is_refusal (show_asked m r t)
 declines m (partner n x z) t = is_refusal (partner_asked m n x z t)
-
--- the table that a history leads to
-abbrev pub after : Meaning → List Call → Table
-after m [] = new_table m
-after m (k ∷ h) = called m k (after m h)
 
 -- ---- limits and lines, from the list alone
 

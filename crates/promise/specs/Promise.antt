@@ -1,5 +1,5 @@
 -- The promise about long use: what a sheet shows after every history of calls.
-use Rattle.std.specs.Prelude.{◌≡◌, ℕ, ◌<◌, Bool, true, false, ◌⊎◌, List, ◌∷◌, ◌++◌, length, map, ℤ, Some, None, Ok, ◌==◌, ◌≢◌}
+use Rattle.std.specs.Prelude.{◌≡◌, ℕ, ◌<◌, Bool, true, false, ◌⊎◌, List, ◌∷◌, ◌++◌, length, map, ℤ, Some, None, ◌==◌, ◌≢◌}
 use Rattle.catalogue.specs.declared.types.Range.{Range}
 use Rattle.catalogue.specs.declared.types.Triple.{Triple}
 use Rattle.catalogue.specs.Meanings.{Meaning, Laws, all_readings}
@@ -9,9 +9,9 @@ use Rattle.sheet.specs.declared.table.State.TheVariants.{Settled, Open, Void}
 use Rattle.sheet.specs.declared.table.Table.{Table}
 use Rattle.promise.specs.Histories.{Call, settle, strike, enter, after, declines, limits_of, line_at, passes_check, HasLine}
 use Rattle.sheet.specs.Calls.{no_line}
-use Rattle.sheet.specs.Lines.{checked, drawn_of}
+use Rattle.sheet.specs.Boards.{line_at as at_place}
 use Rattle.sheet.specs.Places.{has, without}
-use Rattle.sheet.specs.Rules.{range_at, row_at, at_rest, narrowed_by, step}
+use Rattle.sheet.specs.Rules.{range_at, at_rest, narrowed_by, step}
 
 -- ---- sets of ranges, and assignments
 
@@ -76,11 +76,15 @@ pub record Shows (m : Meaning) (h : List Call) (t : Table) : Type 0 where
   pub holds : (t.state ≢ Void) → (v : Assignment) → Keeps m h v → (r : ℕ) → r < 32 → Holds (range_at t r) (v r)
   pub void_holds : t.state ≡ Void → (v : Assignment) → Keeps m h v → ⊥
   -- at each place it has the line that stands there by the list of calls, and no other: strike and partner go by it
-  pub there : (n : ℕ) (l : Line) → line_at h n ≡ Some l → (no_line n t ≡ false) × (checked (drawn_of (row_at t n)) ≡ Ok l)
+  pub there : (n : ℕ) (l : Line) → line_at h n ≡ Some l → (no_line n t ≡ false) × (at_place t.lines n ≡ Some l)
   pub free : (n : ℕ) → line_at h n ≡ None → no_line n t ≡ true
   -- at rest, no line is due; open, some line that stands is
   pub calm : at_rest t.state ≡ true → (n : ℕ) → has t.due n ≡ false
   pub busy : t.state ≡ Open → (n : ℕ) × ((l : Line) × ((line_at h n ≡ Some l) × (has t.due n ≡ true)))
+
+-- some list of calls leads to the table, and it shows what is promised after that list
+abbrev pub ShowsOfSome : Meaning → Table → Type 0
+ShowsOfSome m t = (h : List Call) × ((t ≡ after m h) × Shows m h t)
 
 -- ---- two sheets
 

@@ -2,9 +2,8 @@
 
 #![tactic(auto)]
 
-ghost use Rattle.std.specs.Prelude.{◌≡◌, List};
-ghost use Rattle.promise.specs.Histories.{Call, after};
-ghost use Rattle.promise.specs.Promise.{Consequences, Promise, Shows};
+ghost use Rattle.std.specs.Prelude.{◌≡◌};
+ghost use Rattle.promise.specs.Promise.{Consequences, Promise, ShowsOfSome};
 ghost use Rattle.promise.specs.Shown.{show_answer, show_asked};
 
 use catalogue::interface::Catalogue;
@@ -36,7 +35,7 @@ fn look_at<C: Catalogue>(sheet: &Sheet<C>, register: u32) -> Result<Shown, Refus
 /// What a sheet shows of a register. Whatever calls led to the sheet, it shows what the promise says.
 pub fn show<C: Catalogue>(sheet: &Sheet<C>, register: u32) -> Result<Shown, Refusal>
     ensures answer { show_answer result ≡ show_asked (C.meaning sheet.now.catalogue) register sheet.now.table }
-    ensures shows { (h : List Call) → sheet.now.table ≡ after (C.meaning sheet.now.catalogue) h → Shows (C.meaning sheet.now.catalogue) h sheet.now.table }
+    ensures shows { ∥ ShowsOfSome (C.meaning sheet.now.catalogue) sheet.now.table ∥₁ }
     ensures promise { Promise (C.meaning sheet.now.catalogue) }
     ensures consequences { Consequences (C.meaning sheet.now.catalogue) }
 {

@@ -10,16 +10,16 @@ use Rattle.sheet.specs.declared.places.Places.{Places}
 use Rattle.sheet.specs.Places.{Lowest, has, with_place, without, union, is_none, lowest}
 
 -- ---- whether a set has a place, by the place's bit
-has_true : (s : Places) (n : ℕ) → bit_at s.bits n ≡ 1 → has s n ≡ true
+pub has_true : (s : Places) (n : ℕ) → bit_at s.bits n ≡ 1 → has s n ≡ true
 has_true s n e = eq-eqb (bit_at s.bits n) 1 e
 
 pub has_false : (s : Places) (n : ℕ) → bit_at s.bits n ≡ 0 → has s n ≡ false
 has_false s n e = ne_eqb (bit_at s.bits n) 1 (λ h. omega (arith, e, h))
 
-bit_one : (s : Places) (n : ℕ) → has s n ≡ true → bit_at s.bits n ≡ 1
+pub bit_one : (s : Places) (n : ℕ) → has s n ≡ true → bit_at s.bits n ≡ 1
 bit_one s n h = eqb-true (bit_at s.bits n) 1 h
 
-bit_zero : (s : Places) (n : ℕ) → has s n ≡ false → bit_at s.bits n ≡ 0
+pub bit_zero : (s : Places) (n : ℕ) → has s n ≡ false → bit_at s.bits n ≡ 0
 bit_zero s n h = let ne = eqb-false (bit_at s.bits n) 1 h in omega (arith, bit_at-lt s.bits n)
 
 -- ---- a set with a place more has that place, and every other as before

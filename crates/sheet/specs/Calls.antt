@@ -1,6 +1,6 @@
 -- What each call of a sheet answers, and the table that it leaves. Refusals go by number.
 -- Of a call, `.._asked` is what the rules give, or the refusal; `.._answer` puts the code's answer in the same terms; `.._table` is the table that it leaves.
-use Rattle.std.specs.Prelude.{◌≡◌, ℕ, zero, suc, ◌<◌, ◌≤◌, Bool, true, false, cond, not, ◌||◌, ℤ, Some, None, Ok, Err, Option, Result, ◌==◌, int_lt, nat_lt}
+use Rattle.std.specs.Prelude.{◌≡◌, ℕ, zero, suc, ◌<◌, ◌≤◌, Bool, true, false, cond, not, ◌||◌, ℤ, Some, None, Ok, Err, Option, Result, is_some, ◌==◌, int_lt, nat_lt}
 use Rattle.catalogue.specs.declared.types.Range.{Range}
 use Rattle.catalogue.specs.declared.types.Refusal.{Refusal}
 use Rattle.catalogue.specs.declared.types.Refusal.TheVariants.{NoLineThere}
@@ -15,10 +15,9 @@ use Rattle.sheet.specs.declared.table.Outcome.TheVariants as outcome
 use Rattle.sheet.specs.declared.table.State.{State}
 use Rattle.sheet.specs.declared.table.State.TheVariants.{Settled, Open, Void}
 use Rattle.sheet.specs.declared.table.Table.{Table}
-use Rattle.sheet.specs.Lines.{checked, drawn_of}
+use Rattle.sheet.specs.Boards.{line_at}
 use Rattle.sheet.specs.Numbers.{no_place, no_register}
-use Rattle.sheet.specs.Places.{has}
-use Rattle.sheet.specs.Rules.{limited, entered, struck, Settling, settled, at_rest, range_at, reacted, row_at}
+use Rattle.sheet.specs.Rules.{limited, entered, struck, Settling, settled, at_rest, range_at, reacted}
 
 -- ---- limit: the register (1), the low pattern, then the high (2), their order (3)
 
@@ -45,10 +44,10 @@ enter_answer (Ok x) = Ok x
 enter_answer (Err e) = Err (refusal_number e.0, e.1)
 
 abbrev pub enter_asked : ℕ → CheckedLine → Table → Result (Unit {0}) (ℕ × CheckedLine)
-enter_asked n l t = cond (no_place n) (Err (7, l)) (cond (has t.standing n) (Err (6, l)) (Ok tt))
+enter_asked n l t = cond (no_place n) (Err (7, l)) (cond (is_some (line_at t.lines n)) (Err (6, l)) (Ok tt))
 
 abbrev pub line_table : Meaning → ℕ → Line → Table → Table
-line_table m n l t = cond (no_place n || has t.standing n) t (entered m n l t)
+line_table m n l t = cond (no_place n || is_some (line_at t.lines n)) t (entered m n l t)
 
 abbrev pub enter_table : Meaning → ℕ → CheckedLine → Table → Table
 enter_table m n l t = line_table m n l.line t
@@ -57,7 +56,7 @@ enter_table m n l t = line_table m n l.line t
 
 abbrev pub drawn_asked : ℕ → Result Line ℕ → Table → Result (Unit {0}) ℕ
 drawn_asked n (Err e) t = Err e
-drawn_asked n (Ok l) t = cond (no_place n) (Err 7) (cond (has t.standing n) (Err 6) (Ok tt))
+drawn_asked n (Ok l) t = cond (no_place n) (Err 7) (cond (is_some (line_at t.lines n)) (Err 6) (Ok tt))
 
 abbrev pub drawn_table : Meaning → ℕ → Result Line ℕ → Table → Table
 drawn_table m n (Err e) t = t
@@ -66,7 +65,7 @@ drawn_table m n (Ok l) t = line_table m n l t
 -- ---- strike: the place, and whether a line stands there (7)
 
 abbrev pub no_line : ℕ → Table → Bool
-no_line n t = no_place n || not (has t.standing n)
+no_line n t = no_place n || not (is_some (line_at t.lines n))
 
 -- a number names a place where a line stands, or it is refused
 abbrev pub NamesLine : ℕ → Table → Result ℕ Refusal → Type 0
@@ -172,10 +171,10 @@ named_partner m l p t = m.partner l.operation.kind l.operation.modes p.0 p.1 (ra
 abbrev pub Partnered : Meaning → Line → ℤ × ℤ → Table → Type 0
 Partnered m l p t = SomeOf (range_at t l.y) (λ y. m.allowed l.operation.kind l.operation.modes p.0 y p.1) (named_partner m l p t)
 
-abbrev pub partner_of : Meaning → Result Line ℕ → Result (ℤ × ℤ) ℕ → Table → Result (Option ℕ) ℕ
-partner_of m (Err e) p t = Err 7
-partner_of m (Ok l) (Err e) t = Err e
-partner_of m (Ok l) (Ok p) t = cond (is_void t.state) (Err 9) (Ok (pattern_or_none m (named_partner m l p t)))
+abbrev pub partner_of : Meaning → Option Line → Result (ℤ × ℤ) ℕ → Table → Result (Option ℕ) ℕ
+partner_of m None p t = Err 7
+partner_of m (Some l) (Err e) t = Err e
+partner_of m (Some l) (Ok p) t = cond (is_void t.state) (Err 9) (Ok (pattern_or_none m (named_partner m l p t)))
 
 abbrev pub partner_asked : Meaning → ℕ → ℕ → ℕ → Table → Result (Option ℕ) ℕ
-partner_asked m n x z t = cond (no_line n t) (Err 7) (partner_of m (checked (drawn_of (row_at t n))) (both_read (m.reads x) (m.reads z)) t)
+partner_asked m n x z t = cond (no_line n t) (Err 7) (partner_of m (line_at t.lines n) (both_read (m.reads x) (m.reads z)) t)

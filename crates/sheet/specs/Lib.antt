@@ -7,3 +7,5 @@ pub mod Places
 pub mod Rules
 pub mod Calls
 pub mod Outcomes
+pub mod Histories
+pub mod Boards

@@ -9,11 +9,10 @@ use Rattle.sheet.specs.declared.places.Places.{Places}
 use Rattle.sheet.specs.declared.table.Empty.{Empty}
 use Rattle.sheet.specs.declared.table.Event.{Event}
 use Rattle.sheet.specs.declared.table.Event.TheVariants.{Tightened, Loosened, Entered, Struck, Step}
-use Rattle.sheet.specs.declared.table.Row.{Row}
 use Rattle.sheet.specs.declared.table.State.{State}
 use Rattle.sheet.specs.declared.table.State.TheVariants.{Settled, Open, Void}
 use Rattle.sheet.specs.declared.table.Table.{Table}
-use Rattle.sheet.specs.Lines.{checked, row_of, drawn_of}
+use Rattle.sheet.specs.Boards.{line_at, naming_of, standing_of}
 use Rattle.sheet.specs.Places.{none, with_place, without, union, is_none, lowest}
 
 -- ---- parts of a table
@@ -21,43 +20,28 @@ use Rattle.sheet.specs.Places.{none, with_place, without, union, is_none, lowest
 abbrev pub no_range : Range
 no_range = record { low = pos 0; high = pos 0 }
 
-abbrev pub no_row : Row
-no_row = record { kind = 0; modes = 0; x = 0; y = 0; z = 0 }
-
 abbrev pub limits_at : Table → ℕ → Range
 limits_at t r = slice_index_or t.limits r no_range
 
 abbrev pub range_at : Table → ℕ → Range
 range_at t r = slice_index_or t.ranges r no_range
 
-abbrev pub row_at : Table → ℕ → Row
-row_at t n = slice_index_or t.rows n no_row
-
-abbrev pub naming_at : Table → ℕ → Places
-naming_at t r = slice_index_or t.naming r none
-
 -- ---- a table with one part replaced
 
 abbrev pub with_limits : List Range → Table → Table
-with_limits l t = record { limits = l; ranges = t.ranges; rows = t.rows; standing = t.standing; naming = t.naming; due = t.due; state = t.state }
+with_limits l t = record { limits = l; ranges = t.ranges; lines = t.lines; due = t.due; state = t.state }
 
 abbrev pub with_ranges : List Range → Table → Table
-with_ranges l t = record { limits = t.limits; ranges = l; rows = t.rows; standing = t.standing; naming = t.naming; due = t.due; state = t.state }
+with_ranges l t = record { limits = t.limits; ranges = l; lines = t.lines; due = t.due; state = t.state }
 
 abbrev pub with_due : Places → Table → Table
-with_due s t = record { limits = t.limits; ranges = t.ranges; rows = t.rows; standing = t.standing; naming = t.naming; due = s; state = t.state }
+with_due s t = record { limits = t.limits; ranges = t.ranges; lines = t.lines; due = s; state = t.state }
 
 abbrev pub with_state : State → Table → Table
-with_state s t = record { limits = t.limits; ranges = t.ranges; rows = t.rows; standing = t.standing; naming = t.naming; due = t.due; state = s }
+with_state s t = record { limits = t.limits; ranges = t.ranges; lines = t.lines; due = t.due; state = s }
 
-abbrev pub with_naming : List Places → Table → Table
-with_naming l t = record { limits = t.limits; ranges = t.ranges; rows = t.rows; standing = t.standing; naming = l; due = t.due; state = t.state }
-
-abbrev pub with_line : ℕ → Row → Table → Table
-with_line n w t = record { limits = t.limits; ranges = t.ranges; rows = slice_set t.rows n w; standing = with_place n t.standing; naming = t.naming; due = t.due; state = t.state }
-
-abbrev pub with_standing : Places → Table → Table
-with_standing s t = record { limits = t.limits; ranges = t.ranges; rows = t.rows; standing = s; naming = t.naming; due = t.due; state = t.state }
+abbrev pub with_lines : List (Option Line) → Table → Table
+with_lines ls t = record { limits = t.limits; ranges = t.ranges; lines = ls; due = t.due; state = t.state }
 
 -- ---- rest, void, and the return to the limits
 
@@ -71,13 +55,13 @@ voided t = with_state Void (with_due none (with_ranges t.limits t))
 
 -- all ranges return to the limits, and all lines are due
 abbrev pub returned : Table → Table
-returned t = rested (with_due t.standing (with_ranges t.limits t))
+returned t = rested (with_due (standing_of t.lines) (with_ranges t.limits t))
 
 -- ---- cuts
 
 -- register r's range becomes another, and the lines that name r become due
 abbrev pub changed : ℕ → Range → Table → Table
-changed r new t = with_due (union t.due (naming_at t r)) (with_ranges (slice_set t.ranges r new) t)
+changed r new t = with_due (union t.due (naming_of r t.lines)) (with_ranges (slice_set t.ranges r new) t)
 
 -- register r's range is cut to what it has in common with b, if that leaves something; a line is due only for a range that changed
 abbrev pub cut_table : ℕ → Range → Table → Table
@@ -115,15 +99,15 @@ absorbed l (Some s) t = then (then (cut l.x s.x t) (cut l.y s.y)) (cut l.z s.z)
 abbrev pub narrowed_by : Meaning → Line → Table → Option Table
 narrowed_by m l t = absorbed l (m.narrowed l.operation.kind l.operation.modes (given l t)) t
 
--- a row is made a line again by the check; one that does not pass changes nothing, and no standing line has such a row
-abbrev pub step_line : Meaning → Result Line ℕ → Table → Table
-step_line m (Err e) t = rested t
-step_line m (Ok l) t = or_void t (narrowed_by m l t)
+-- no place that is due is without a line
+abbrev pub step_line : Meaning → Option Line → Table → Table
+step_line m None t = rested t
+step_line m (Some l) t = or_void t (narrowed_by m l t)
 
 -- the line at a place stops being due, and is narrowed
 abbrev pub step_at : Meaning → Option ℕ → Table → Table
 step_at m None t = t
-step_at m (Some n) t = step_line m (checked (drawn_of (row_at t n))) (with_due (without n t.due) t)
+step_at m (Some n) t = step_line m (line_at t.lines n) (with_due (without n t.due) t)
 
 -- a step takes the line at the lowest due place
 abbrev pub step : Meaning → Table → Table
@@ -168,31 +152,18 @@ limited m r b t = reacted m t.state (limit_event r b t) (with_limits (slice_set 
 
 -- ---- enter
 
--- the places of the lines that name each register, with the line at n naming r
-abbrev pub named : ℕ → ℕ → List Places → List Places
-named n r s = slice_set s r (with_place n (slice_index_or s r none))
-
 -- a line stands at a place
 abbrev pub placed : ℕ → Line → Table → Table
-placed n l t = with_naming (named n l.z (named n l.y (named n l.x t.naming))) (with_line n (row_of l) t)
+placed n l t = with_lines (slice_set t.lines n (Some l)) t
 
 abbrev pub entered : Meaning → ℕ → Line → Table → Table
 entered m n l t = reacted m t.state (Entered n) (placed n l t)
 
 -- ---- strike
 
--- the places of the lines that name each register, without the line at n
-abbrev pub unnamed : ℕ → ℕ → List Places → List Places
-unnamed n r s = slice_set s r (without n (slice_index_or s r none))
-
--- the registers of the line at n are taken out of the index
-abbrev pub unindexed : ℕ → Result Line ℕ → Table → Table
-unindexed n (Err e) t = t
-unindexed n (Ok l) t = with_naming (unnamed n l.z (unnamed n l.y (unnamed n l.x t.naming))) t
-
 -- no line stands at a place
 abbrev pub removed : ℕ → Table → Table
-removed n t = unindexed n (checked (drawn_of (row_at t n))) (with_standing (without n t.standing) t)
+removed n t = with_lines (slice_set t.lines n None) t
 
 abbrev pub struck : Meaning → ℕ → Table → Table
 struck m n t = reacted m t.state Struck (removed n t)
@@ -223,9 +194,7 @@ abbrev pub table_of : Range → Table
 table_of all = record {
   limits = replicate 32 all;
   ranges = replicate 32 all;
-  rows = replicate 64 no_row;
-  standing = none;
-  naming = replicate 32 none;
+  lines = replicate 64 None;
   due = none;
   state = Settled;
 }

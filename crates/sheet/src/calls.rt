@@ -4,11 +4,12 @@ ghost use Rattle.sheet.specs.declared.lines.Line.{Line};
 ghost use Rattle.sheet.specs.Calls.{NamesLine, Partnered, Steps, bad_budget, both_read, done, ended_in, enter_answer, enter_asked, enter_table, in_patterns, is_settled, limit_asked, limit_table, limits_read, look_answer, named_partner, outcome_number, partner_asked, pattern_or_none, settle_answer, settle_asked, settle_table, shown, strike_asked, strike_table};
 ghost use Rattle.sheet.specs.Rules.{new_table, settled, table_of};
 
+use crate::board::Board;
 use crate::lines::CheckedLine;
 use crate::places::{Place, Places};
 use crate::registers::Register;
 use crate::sheet::{Look, Sheet};
-use crate::table::{Outcome, Row, State, Table};
+use crate::table::{Outcome, State, Table};
 use catalogue::interface::Catalogue;
 use catalogue::types::{Range, Refusal};
 
@@ -40,15 +41,7 @@ impl Table {
         Table {
             limits: [all; 32],
             ranges: [all; 32],
-            rows: [Row {
-                kind: 0,
-                modes: 0,
-                x: 0,
-                y: 0,
-                z: 0,
-            }; 64],
-            standing: Places::none(),
-            naming: [Places::none(); 32],
+            lines: Board::new(),
             due: Places::none(),
             state: State::Settled,
         }
@@ -100,7 +93,7 @@ impl<C: Catalogue> Sheet<C> {
             Ok(place) => place,
             Err(refusal) => return Err((refusal, line)),
         };
-        if self.table.standing.has(place) {
+        if self.table.lines.has(place) {
             return Err((Refusal::PlaceTaken, line));
         }
         self.table.enter(&self.catalogue, place, line);
@@ -112,7 +105,7 @@ impl<C: Catalogue> Sheet<C> {
         ensures { NamesLine number self.now.table result }
     {
         let place = Place::try_from(number)?;
-        let stands = self.table.standing.has(place);
+        let stands = self.table.lines.has(place);
         stands.then_some(place).ok_or(Refusal::NoLineThere)
     }
 
@@ -140,7 +133,7 @@ impl<C: Catalogue> Sheet<C> {
         ensures choice { (l : Line) (p : ℤ × ℤ) → Partnered (C.meaning self.now.catalogue) l p self.now.table }
     {
         let place = self.place_of_line(place)?;
-        let line = self.table.line_at(place).map_err(|_| Refusal::NoLineThere)?;
+        let line = self.table.lines.line_at(place).ok_or(Refusal::NoLineThere)?;
         let (x, z) = self.ranks(x, z)?;
         let look = self.look()?;
         Ok(look.partner_of(&line, x, z))

@@ -1,11 +1,9 @@
 ghost use Rattle.std.specs.Prelude.{◌≡◌};
 ghost use Rattle.sheet.specs.Lines.{check_answer, checked, drawn_of, row_of};
-ghost use Rattle.sheet.specs.Rules.{row_at};
 
 use crate::lines::{CheckedLine, DrawnLine, Line};
-use crate::places::Place;
 use crate::registers::Register;
-use crate::table::{Row, Table};
+use crate::table::Row;
 use catalogue::types::{Kind, Modes, Operation, Refusal};
 
 impl DrawnLine {
@@ -55,14 +53,5 @@ impl From<Row> for DrawnLine {
             y: u32::from(row.y),
             z: u32::from(row.z),
         }
-    }
-}
-
-impl Table {
-    /// The line at a place, made again from its row by the check.
-    pub(crate) fn line_at(&self, place: Place) -> Result<CheckedLine, Refusal>
-        ensures { check_answer result ≡ checked (drawn_of (row_at self.now place)) }
-    {
-        DrawnLine::from(self.rows[place.index()]).check()
     }
 }

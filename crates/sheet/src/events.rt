@@ -1,10 +1,11 @@
-ghost use Rattle.std.specs.Prelude.{◌≡◌, Ok};
-ghost use Rattle.sheet.specs.Rules.{at_rest, entered, limit_event, limited, named, placed, reacted, removed, settled, struck, unindexed, unnamed, with_naming};
+ghost use Rattle.std.specs.Prelude.{◌≡◌, false, is_some};
+ghost use Rattle.sheet.specs.Boards.{line_at};
+ghost use Rattle.sheet.specs.Rules.{at_rest, entered, limit_event, limited, reacted, settled, struck};
 
-use crate::lines::{CheckedLine, Line};
+use crate::lines::CheckedLine;
 use crate::places::Place;
 use crate::registers::Register;
-use crate::table::{Event, Row, State, Table};
+use crate::table::{Event, State, Table};
 use catalogue::interface::Catalogue;
 use catalogue::types::Range;
 
@@ -53,65 +54,20 @@ impl Table {
         self.react(catalogue, event);
     }
 
-    /// Notes that the line at a place names a register.
-    fn name(&mut self, place: Place, register: Register)
-        ensures { self.new ≡ with_naming (named place register self.old.naming) self.old }
-    {
-        self.naming[register.index()] = self.naming[register.index()].with(place);
-    }
-
-    /// Puts a line at a place.
-    fn put(&mut self, place: Place, line: Line)
-        ensures { self.new ≡ placed place line self.old }
-    {
-        let Line { x, y, z, .. } = line;
-        self.rows[place.index()] = Row::from(line);
-        self.standing = self.standing.with(place);
-        self.name(place, x);
-        self.name(place, y);
-        self.name(place, z);
-    }
-
     /// Enters a checked line at a free place.
     pub(crate) fn enter<C: Catalogue>(&mut self, catalogue: &C, place: Place, checked: CheckedLine)
+        requires { is_some (line_at self.old.lines place) ≡ false }
         ensures { self.new ≡ entered (C.meaning catalogue.now) place checked.line self.old }
     {
-        self.put(place, checked.line);
+        self.lines.put(place, checked);
         self.react(catalogue, Event::Entered(place));
-    }
-
-    /// Notes that the line at a place names a register no longer. `name` beside it differs in the step alone, but a step
-    /// that is passed in would need a contract longer than both.
-    fn unname(&mut self, place: Place, register: Register)
-        ensures { self.new ≡ with_naming (unnamed place register self.old.naming) self.old }
-    {
-        self.naming[register.index()] = self.naming[register.index()].without(place);
-    }
-
-    /// Takes the registers of a checked line out of the index.
-    fn unname_line(&mut self, place: Place, checked: &CheckedLine)
-        ensures { self.new ≡ unindexed place (Ok checked.now.line) self.old }
-    {
-        self.unname(place, checked.line.x);
-        self.unname(place, checked.line.y);
-        self.unname(place, checked.line.z);
-    }
-
-    /// Removes the line at a place.
-    fn remove(&mut self, place: Place)
-        ensures { self.new ≡ removed place self.old }
-    {
-        self.standing = self.standing.without(place);
-        if let Ok(line) = self.line_at(place) {
-            self.unname_line(place, &line);
-        }
     }
 
     /// Strikes the line at a place.
     pub(crate) fn strike<C: Catalogue>(&mut self, catalogue: &C, place: Place)
         ensures { self.new ≡ struck (C.meaning catalogue.now) place self.old }
     {
-        self.remove(place);
+        self.lines.remove(place);
         self.react(catalogue, Event::Struck);
     }
 

@@ -2,6 +2,7 @@
 
 #![tactic(auto)]
 
+pub mod board;
 mod calls;
 mod checks;
 mod events;

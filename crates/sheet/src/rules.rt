@@ -47,7 +47,7 @@ impl Table {
     {
         let limits = self.limits;
         self.ranges = limits;
-        self.due = self.standing;
+        self.due = self.lines.standing();
         self.rest();
     }
 
@@ -56,7 +56,7 @@ impl Table {
         ensures { self.new ≡ changed register new self.old }
     {
         self.ranges[register.index()] = new;
-        self.due = self.due.union(self.naming[register.index()]);
+        self.due = self.due.union(self.lines.naming(register));
     }
 
     /// Cuts a register's range to what it has in common with another.
@@ -140,9 +140,9 @@ impl Table {
             return;
         };
         self.due = self.due.without(place);
-        match self.line_at(place) {
-            Ok(line) => self.step_line(catalogue, &line),
-            Err(_) => self.rest(),
+        match self.lines.line_at(place) {
+            Some(line) => self.step_line(catalogue, &line),
+            None => self.rest(),
         }
     }
 }

@@ -1,3 +1,5 @@
+ghost use Rattle.sheet.specs.Histories.{Reached};
+
 use crate::table::Table;
 use catalogue::interface::Catalogue;
 
@@ -6,6 +8,7 @@ use catalogue::interface::Catalogue;
 pub struct Sheet<C: Catalogue> {
     pub(crate) catalogue: C,
     pub(crate) table: Table,
+    pub ghost reached: { ∥ Reached (C.meaning catalogue) table ∥₁ },
 }
 
 /// What a sheet shows. While it stands, nothing changes the sheet.

@@ -1,3 +1,4 @@
+use crate::board::Board;
 use crate::places::{Place, Places};
 use crate::registers::Register;
 use catalogue::types::Range;
@@ -26,12 +27,8 @@ pub struct Table {
     pub(crate) limits: [Range; 32],
     /// Beside the limits and not in one struct with them: the return to the limits copies one whole array to the other.
     pub(crate) ranges: [Range; 32],
-    /// Rows, and not optional lines: a struck line keeps its row, and only its mark in `standing` goes.
-    pub(crate) rows: [Row; 64],
-    /// The places where a line stands.
-    pub(crate) standing: Places,
-    /// For each register, the places of the standing lines that name it; beside the ranges, which are copied without it.
-    pub(crate) naming: [Places; 32],
+    /// The lines, by place.
+    pub(crate) lines: Board,
     /// The places of the lines that are due.
     pub(crate) due: Places,
     pub(crate) state: State,
