@@ -1,105 +1,194 @@
--- Sets of places as bits: the lowest place, and which places a changed set has.
-use Rattle.std.proofs.Common.{◌≡◌, ℕ, ◌+◌, ◌/◌, ◌%◌, ◌^◌, ◌<◌, Bool, true, false, not, ◌&&◌, ◌||◌, eqb, Some, None, sym, refl, ap, ◌∙◌, subst, ⊎_elim, w64, arith}
-use Rattle.std.specs.Int.{bit_at}
-use Rattle.std.specs.Int.Bits.{bit_xor}
-use Rattle.std.specs.Int.Count.{count_trailing_zeros}
-use Rattle.std.proofs.lemmas.Nat.{shr-shr}
-use Rattle.std.proofs.lemmas.Nat.Bits.{bit_at-lt, bit_at-pow_other, bit_at-pow_same, bit_at-trailing_zeros, bit_at-zero, bit_at_or, bit_at_xor, same_from_bits}
-use Rattle.std.proofs.lemmas.Bool.{eq-eqb, ne_eqb, eqb-true, eqb-false, cond_both, cond-true, cond-false, and_right, or_right, cases_Bool, cases_eq, both_ways}
+-- Sets of places: which places a set made by a test has, that two sets with the same places are one, and the lowest place.
+use Rattle.std.proofs.Common.{◌≡◌, ◌≢◌, ℕ, zero, suc, ◌+◌, ◌/◌, ◌%◌, ◌^◌, ◌<◌, ◌≤◌, Bool, true, false, cond, not, ◌&&◌, ◌||◌, eqb, ltb, List, [], ◌∷◌, length, get_or, Some, None, Option, sym, refl, ap, ◌∙◌, subst, ⊎_elim, arith}
+use Rattle.std.specs.List.{position_from}
+use Rattle.std.proofs.lemmas.Bool.{eq-eqb, ne_eqb, eqb-true, eqb-false, and_left, and_right, or_left, or_right, cases_Bool, cases_eq, both_ways, ltb-true, ltb-false}
+use Rattle.std.proofs.lemmas.Grind.{common_steps}
 use Rattle.sheet.specs.declared.places.Places.{Places}
-use Rattle.sheet.specs.Places.{Lowest, has, with_place, without, union, is_none, lowest}
+use Rattle.sheet.specs.Bits.{tests_at, tests_past}
+use Rattle.sheet.specs.Places.{Lowest, has, tests, places_where, none, with_place, without, union, is_none, lowest}
 
--- ---- whether a set has a place, by the place's bit
-pub has_true : (s : Places) (n : ℕ) → bit_at s.bits n ≡ 1 → has s n ≡ true
-has_true s n e = eq-eqb (bit_at s.bits n) 1 e
+-- ---- the places that pass a test
+pub where_at : (p : ℕ → Bool) (k : ℕ) → k < 64 → has (places_where p) k ≡ p k
+unfolding places_where
+where_at p k lt = tests_at 64 0 p k lt ∙ ap p (omega arith)
 
-pub has_false : (s : Places) (n : ℕ) → bit_at s.bits n ≡ 0 → has s n ≡ false
-has_false s n e = ne_eqb (bit_at s.bits n) 1 (λ h. omega (arith, e, h))
+pub where_past : (p : ℕ → Bool) (k : ℕ) → 64 ≤ k → has (places_where p) k ≡ false
+unfolding places_where
+where_past p k le = tests_past 64 0 p k le
 
-pub bit_one : (s : Places) (n : ℕ) → has s n ≡ true → bit_at s.bits n ≡ 1
-bit_one s n h = eqb-true (bit_at s.bits n) 1 h
-
-pub bit_zero : (s : Places) (n : ℕ) → has s n ≡ false → bit_at s.bits n ≡ 0
-bit_zero s n h = let ne = eqb-false (bit_at s.bits n) 1 h in omega (arith, bit_at-lt s.bits n)
-
--- ---- a set with a place more has that place, and every other as before
-pub with_here : (n : ℕ) (s : Places) → has (with_place n s) n ≡ true
-with_here n s = has_true (with_place n s) n (omega (arith, bit_at_or s.bits (2 ^ n) n, bit_at-pow_same n, bit_at-lt s.bits n))
-
-pub with_other : (n : ℕ) (s : Places) (k : ℕ) → (k ≡ n → ⊥) → has (with_place n s) k ≡ has s k
-with_other n s k ne = ap (λ q. eqb q 1) (bit_at_or s.bits (2 ^ n) k ∙ omega (arith, bit_at-pow_other n k ne))
-
-pub with_has : (n : ℕ) (s : Places) (k : ℕ) → has (with_place n s) k ≡ (has s k || eqb k n)
-with_has n s k = ⊎_elim
-    (λ (e : k ≡ n). subst (λ q. has (with_place n s) q ≡ (has s q || eqb q n)) (sym e) (with_here n s ∙ sym (or_right (has s n) (eqb n n) (eq-eqb n n refl))))
-    (λ (ne : k ≡ n → ⊥). with_other n s k ne ∙ or_none (has s k) ∙ ap (λ b. has s k || b) (sym (ne_eqb k n ne)))
-    (cases_eq k n)
+-- tests that agree at each place
+pub same_where : (p q : ℕ → Bool) → ((k : ℕ) → k < 64 → p k ≡ q k) → places_where p ≡ places_where q
+unfolding places_where tests
+same_where p q h = from 64 0 (λ k lt le. h k (omega arith))
   where
-    or_none : (a : Bool) → a ≡ (a || false)
+    from : (c n : ℕ) → ((k : ℕ) → k < n + c → n ≤ k → p k ≡ q k) → tests c n p ≡ tests c n q
+    from zero n h = refl
+    from (suc c) n h = ap (λ b. b ∷ tests c (suc n) p) (h n (omega arith) (omega arith)) ∙ ap (λ s. q n ∷ s) (from c (suc n) (λ k lt le. h k (omega arith) (omega arith)))
+
+-- a set that a test made is made by its own places, and two such sets with the same places are one
+pub where_is : (p : ℕ → Bool) → places_where (has (places_where p)) ≡ places_where p
+where_is p = same_where (has (places_where p)) p (where_at p)
+
+pub same_sets : (s u : Places) → places_where (has s) ≡ s → places_where (has u) ≡ u → ((k : ℕ) → k < 64 → has s k ≡ has u k) → s ≡ u
+same_sets s u a b h = sym a ∙ same_where (has s) (has u) h ∙ b
+
+-- ---- which places a changed set has
+pub none_has : (k : ℕ) → has none k ≡ false
+unfolding none
+none_has k = ⊎_elim
+    (λ e. where_at (λ _. false) k (ltb-true k 64 e))
+    (λ e. where_past (λ _. false) k (ltb-false k 64 e))
+    (cases_Bool (ltb k 64))
+
+pub with_has : (n : ℕ) (s : Places) (k : ℕ) → k < 64 → has (with_place n s) k ≡ (has s k || eqb k n)
+unfolding with_place
+with_has n s k lt = where_at (λ j. has s j || eqb j n) k lt
+
+pub none_is : places_where (has none) ≡ none
+unfolding none
+none_is = where_is (λ k. false)
+
+pub with_is : (n : ℕ) (s : Places) → places_where (has (with_place n s)) ≡ with_place n s
+unfolding with_place
+with_is n s = where_is (λ k. has s k || eqb k n)
+
+pub without_is : (n : ℕ) (s : Places) → places_where (has (without n s)) ≡ without n s
+unfolding without
+without_is n s = where_is (λ k. has s k && not (eqb k n))
+
+pub with_here : (n : ℕ) (s : Places) → n < 64 → has (with_place n s) n ≡ true
+with_here n s lt = with_has n s n lt ∙ or_right (has s n) (eqb n n) (eq-eqb n n refl)
+
+-- a place that a set has after it was given n is n, or was there
+pub with_from : (n : ℕ) (s : Places) (k : ℕ) → has (with_place n s) k ≡ true → k ≢ n → has s k ≡ true
+unfolding with_place
+with_from n s k e ne = ⊎_elim
+    (λ t. let h = sym (where_at (λ j. has s j || eqb j n) k (ltb-true k 64 t)) ∙ e in or_first (has s k) (eqb k n) (ne_eqb k n ne) h)
+    (λ f. absurd (both_ways (has (with_place n s) k) (where_past (λ j. has s j || eqb j n) k (ltb-false k 64 f)) e))
+    (cases_Bool (ltb k 64))
+  where
+    or_first : (a b : Bool) → b ≡ false → (a || b) ≡ true → a ≡ true
+    or_first true b f e = refl
+    or_first false b f e = absurd (both_ways b f e)
+
+pub with_other : (n : ℕ) (s : Places) (k : ℕ) → k < 64 → k ≢ n → has (with_place n s) k ≡ has s k
+with_other n s k lt ne = with_has n s k lt ∙ ap (λ b. has s k || b) (ne_eqb k n ne) ∙ or_none (has s k)
+  where
+    or_none : (a : Bool) → (a || false) ≡ a
     or_none true = refl
     or_none false = refl
 
--- ---- a set without a place does not have it, and has every other as before
-abbrev gone : ℕ → Places → Places
-gone n s = record { bits = bit_xor s.bits (2 ^ n) }
+pub without_has : (n : ℕ) (s : Places) (k : ℕ) → k < 64 → has (without n s) k ≡ (has s k && not (eqb k n))
+unfolding without
+without_has n s k lt = where_at (λ j. has s j && not (eqb j n)) k lt
 
-pub without_here : (n : ℕ) (s : Places) → has (without n s) n ≡ false
-without_here n s = cond_both (has s n) (gone n s) s (λ u. has u n ≡ false)
-    (λ e. has_false (gone n s) n (bit_at_xor s.bits (2 ^ n) n ∙ omega (arith, bit_at-pow_same n, bit_one s n e)))
-    (λ e. e)
-
-pub without_other : (n : ℕ) (s : Places) (k : ℕ) → (k ≡ n → ⊥) → has (without n s) k ≡ has s k
-without_other n s k ne = cond_both (has s n) (gone n s) s (λ u. has u k ≡ has s k)
-    (λ _. ap (λ q. eqb q 1) (bit_at_xor s.bits (2 ^ n) k ∙ omega (arith, bit_at-pow_other n k ne, bit_at-lt s.bits k)))
-    (λ _. refl)
-
-pub without_has : (n : ℕ) (s : Places) (k : ℕ) → has (without n s) k ≡ (has s k && not (eqb k n))
-without_has n s k = ⊎_elim
-    (λ (e : k ≡ n). subst (λ q. has (without n s) q ≡ (has s q && not (eqb q n))) (sym e) (without_here n s ∙ sym (and_right (has s n) (not (eqb n n)) (ap not (eq-eqb n n refl)))))
-    (λ (ne : k ≡ n → ⊥). without_other n s k ne ∙ and_all (has s k) ∙ ap (λ b. has s k && not b) (sym (ne_eqb k n ne)))
-    (cases_eq k n)
+pub without_other : (n : ℕ) (s : Places) (k : ℕ) → k < 64 → k ≢ n → has (without n s) k ≡ has s k
+without_other n s k lt ne = without_has n s k lt ∙ ap (λ b. has s k && not b) (ne_eqb k n ne) ∙ and_all (has s k)
   where
-    and_all : (a : Bool) → a ≡ (a && not false)
+    and_all : (a : Bool) → (a && true) ≡ a
     and_all true = refl
     and_all false = refl
 
--- ---- the union has what either has
-pub union_has : (s u : Places) (k : ℕ) → has (union s u) k ≡ (has s k || has u k)
-union_has s u k = ⊎_elim
-    (λ h. has_true (union s u) k (omega (arith, bit_at_or s.bits u.bits k, bit_one s k h, bit_at-lt u.bits k)) ∙ sym (ap (λ b. b || has u k) h))
-    (λ h. ap (λ q. eqb q 1) (bit_at_or s.bits u.bits k ∙ omega (arith, bit_zero s k h)) ∙ sym (ap (λ b. b || has u k) h))
-    (cases_Bool (has s k))
+pub without_here : (n : ℕ) (s : Places) → n < 64 → has (without n s) n ≡ false
+without_here n s lt = without_has n s n lt ∙ and_right (has s n) (not (eqb n n)) (ap not (eq-eqb n n refl))
 
--- ---- an empty set, and the lowest place of another
-pub none_has : (s : Places) → is_none s ≡ true → (k : ℕ) → has s k ≡ false
-none_has s h k = has_false s k (ap (λ b. bit_at b k) (eqb-true s.bits 0 h) ∙ bit_at-zero k)
+-- a place that a set has once n is gone is another, and was there
+pub without_from : (n : ℕ) (s : Places) (k : ℕ) → has (without n s) k ≡ true → (k ≢ n) × (has s k ≡ true)
+unfolding without
+without_from n s k e = ⊎_elim
+    (λ t.
+    let h = sym (where_at (λ j. has s j && not (eqb j n)) k (ltb-true k 64 t)) ∙ e in
+    let a = and_both (has s k) (not (eqb k n)) h in
+    ((λ f. both_ways (not (eqb k n)) (ap not (eq-eqb k n f)) a.1), a.0))
+    (λ f. absurd (both_ways (has (without n s) k) (where_past (λ j. has s j && not (eqb j n)) k (ltb-false k 64 f)) e))
+    (cases_Bool (ltb k 64))
+  where
+    and_both : (a b : Bool) → (a && b) ≡ true → (a ≡ true) × (b ≡ true)
+    and_both true true e = (refl, refl)
+    and_both true false e = absurd cc
+    and_both false b e = absurd cc
+
+pub union_has : (s u : Places) (k : ℕ) → k < 64 → has (union s u) k ≡ (has s k || has u k)
+unfolding union
+union_has s u k lt = where_at (λ j. has s j || has u j) k lt
+
+pub union_from : (s u : Places) (k : ℕ) → has (union s u) k ≡ true → (has s k || has u k) ≡ true
+unfolding union
+union_from s u k e = ⊎_elim
+    (λ t. sym (where_at (λ j. has s j || has u j) k (ltb-true k 64 t)) ∙ e)
+    (λ f. absurd (both_ways (has (union s u) k) (where_past (λ j. has s j || has u j) k (ltb-false k 64 f)) e))
+    (cases_Bool (ltb k 64))
+
+-- ---- an empty set
+pub empty_has : (s : Places) → is_none s ≡ true → (k : ℕ) → has s k ≡ false
+empty_has [] e k = refl
+empty_has (true ∷ s) e k = absurd cc
+empty_has (false ∷ s) e zero = refl
+empty_has (false ∷ s) e (suc k) = empty_has s e k
+
+pub has_empty : (s : Places) → ((k : ℕ) → has s k ≡ false) → is_none s ≡ true
+has_empty [] h = refl
+has_empty (true ∷ s) h = absurd (both_ways true (h 0) refl)
+has_empty (false ∷ s) h = has_empty s (λ k. h (suc k))
 
 -- a set that has a place is not empty
 pub not_none : (s : Places) (n : ℕ) → has s n ≡ true → is_none s ≡ false
-not_none s n h = ⊎_elim (λ e. absurd (both_ways (has s n) (none_has s e n) h)) (λ e. e) (cases_Bool (is_none s))
+not_none s n h = ⊎_elim (λ e. absurd (both_ways (has s n) (empty_has s e n) h)) (λ e. e) (cases_Bool (is_none s))
 
--- a set that is not empty: the zero bits at its end tell its lowest place
-pub lowest_words : (s : Places) → is_none s ≡ false → s.bits < 2 ^ 64 → Lowest s (Some (count_trailing_zeros 64 s.bits))
-lowest_words s h below =
-    let ne = eqb-false s.bits 0 h in
-    let t = bit_at-trailing_zeros w64 s.bits (omega arith) below in
-    (t.0, has_true s _ t.1, λ k lt. has_false s k (t.2 k lt))
+pub none_is_none : is_none none ≡ true
+none_is_none = has_empty none none_has
 
--- a set of places below 64 is a number below 2 ^ 64
-set_below : (s : Places) → ((k : ℕ) → has s k ≡ true → k < 64) → s.bits < 2 ^ 64
-set_below s h =
-    let top : s.bits / 2 ^ 64 ≡ 0 = same_from_bits (s.bits / 2 ^ 64) 0 (λ i.
-    ap (λ q. q % 2) (shr-shr s.bits 64 i) ∙ bit_zero s (64 + i) (high i) ∙ sym (bit_at-zero i)) in
-    omega arith
+-- ---- the lowest place
+first_from : (s : Places) (i n : ℕ) → has s n ≡ true → ((k : ℕ) → k < n → has s k ≡ false) → position_from (λ b. b) i s ≡ Some (i + n)
+first_from [] i n e h = absurd cc
+first_from (true ∷ s) i zero e h = ap Some (omega arith)
+first_from (true ∷ s) i (suc n) e h = absurd (both_ways true (h 0 (omega arith)) refl)
+first_from (false ∷ s) i zero e h = absurd cc
+first_from (false ∷ s) i (suc n) e h = first_from s (i + 1) n e (λ k lt. h (suc k) (omega arith)) ∙ ap Some (omega arith)
+
+pub first_place : (s : Places) (n : ℕ) → has s n ≡ true → ((k : ℕ) → k < n → has s k ≡ false) → lowest s ≡ Some n
+unfolding lowest
+first_place s n e h = first_from s 0 n e h ∙ ap Some (omega arith)
+
+none_from : (s : Places) (i : ℕ) → is_none s ≡ true → position_from (λ b. b) i s ≡ None
+none_from [] i e = refl
+none_from (true ∷ s) i e = absurd cc
+none_from (false ∷ s) i e = none_from s (i + 1) e
+
+pub no_place_first : (s : Places) → is_none s ≡ true → lowest s ≡ None
+unfolding lowest
+no_place_first s e = none_from s 0 e
+
+-- what is found is in the set, and nothing below it is
+record Found (s : Places) (i n : ℕ) : Type 0 where
+  place : ℕ
+  here : n ≡ i + place
+  has_it : has s place ≡ true
+  first : (k : ℕ) → k < place → has s k ≡ false
+
+found_from : (s : Places) (i n : ℕ) → position_from (λ b. b) i s ≡ Some n → Found s i n
+found_from [] i n e = absurd cc
+found_from (true ∷ s) i n e = record { place = 0; here = let h : n ≡ i = cc in omega arith; has_it = refl; first = λ k lt. absurd (omega arith) }
+found_from (false ∷ s) i n e =
+    let f = found_from s (i + 1) n e in
+    record { place = suc f.place; here = f.here ∙ omega arith; has_it = f.has_it; first = below s f.place f.first }
   where
-    high : (i : ℕ) → has s (64 + i) ≡ false
-    high i = ⊎_elim (λ e. let lt = h (64 + i) e in absurd (omega arith)) (λ e. e) (cases_Bool (has s (64 + i)))
+    below : (s : Places) (p : ℕ) → ((k : ℕ) → k < p → has s k ≡ false) → (k : ℕ) → k < suc p → has (false ∷ s) k ≡ false
+    below s p h zero lt = refl
+    below s p h (suc k) lt = h k (omega arith)
 
-pub lowest_in : (s : Places) (n : ℕ) → ((k : ℕ) → has s k ≡ true → k < 64) → lowest s ≡ Some n → has s n ≡ true
-lowest_in s n h e = ⊎_elim
-    (λ d. let k = sym (cond-true (is_none s) None (Some (count_trailing_zeros 64 s.bits)) d) ∙ e in absurd cc)
-    (λ d. let k = sym (cond-false (is_none s) None (Some (count_trailing_zeros 64 s.bits)) d) ∙ e in
-    let i : count_trailing_zeros 64 s.bits ≡ n = cc in
-    let t = lowest_words s d (set_below s h) in
-    subst (λ j. has s j ≡ true) i t.1)
-    (cases_Bool (is_none s))
+pub lowest_in : (s : Places) (n : ℕ) → lowest s ≡ Some n → (has s n ≡ true) × ((k : ℕ) → k < n → has s k ≡ false)
+unfolding lowest
+lowest_in s n e =
+    let f = found_from s 0 n e in
+    let same : f.place ≡ n = omega (arith, f.here) in
+    (subst (λ j. has s j ≡ true) same f.has_it, subst (λ j. (k : ℕ) → k < j → has s k ≡ false) same f.first)
+
+pub lowest_some : (s : Places) → is_none s ≡ false → (n : ℕ) × (lowest s ≡ Some n)
+unfolding lowest
+lowest_some s e = from s 0 e
+  where
+    from : (s : Places) (i : ℕ) → is_none s ≡ false → (n : ℕ) × (position_from (λ b. b) i s ≡ Some n)
+    from [] i e = absurd cc
+    from (true ∷ s) i e = (i, refl)
+    from (false ∷ s) i e = from s (i + 1) e

@@ -1,17 +1,19 @@
--- The lines of a board by place, and the index that its fields keep beside them.
-use Rattle.std.specs.Prelude.{◌≡◌, ℕ, suc, ◌+◌, ◌*◌, ◌<◌, Bool, true, false, ◌||◌, List, [], ◌∷◌, length, is_some, Some, None, Ok, Err, Option, Result, ◌==◌, slice_index_or, slice_set}
+-- The lines of a sheet, by place, and how the rows of a board keep them.
+use Rattle.std.specs.Prelude.{◌≡◌, ℕ, suc, ◌<◌, Bool, true, false, ◌||◌, List, [], ◌∷◌, length, is_some, Some, None, Ok, Err, Option, Result, ◌==◌, slice_index_or, slice_set}
 use Rattle.sheet.specs.declared.lines.CheckedLine.{CheckedLine}
 use Rattle.sheet.specs.declared.lines.Line.{Line}
 use Rattle.sheet.specs.declared.places.Places.{Places}
 use Rattle.sheet.specs.declared.table.Row.{Row}
-use Rattle.sheet.specs.Lines.{checked, drawn_of}
-use Rattle.sheet.specs.Places.{has, none, with_place, without}
+use Rattle.sheet.specs.declared.TheConstants.{PLACES, REGISTERS}
+use Rattle.sheet.specs.Lines.{checked_line, drawn_of}
+use Rattle.sheet.specs.Places.{has, none, places_where, with_place, without}
 
--- ---- what contracts see
+-- ---- what contracts see: the line at each place, or none
 
-abbrev pub line_at : List (Option Line) → ℕ → Option Line
-line_at ls n = slice_index_or ls n None
+abbrev pub line_in : List (Option Line) → ℕ → Option Line
+line_in ls n = slice_index_or ls n None
 
+-- what a checked line says
 abbrev pub line_answer : Option CheckedLine → Option Line
 line_answer None = None
 line_answer (Some l) = Some l.line
@@ -21,35 +23,26 @@ abbrev pub names : ℕ → Option Line → Bool
 names r None = false
 names r (Some l) = l.x == r || (l.y == r || l.z == r)
 
--- the places whose lines have a property, as bits
-abbrev pub bit_if : Bool → ℕ
-bit_if true = 1
-bit_if false = 0
+-- the places where a line stands
+unfoldable pub places_with_line : List (Option Line) → Places
+places_with_line ls = places_where (λ n. is_some (line_in ls n))
 
-abbrev pub bits_of : (Option Line → Bool) → List (Option Line) → ℕ
-bits_of p [] = 0
-bits_of p (l ∷ ls) = bit_if (p l) + 2 * bits_of p ls
+-- the places of the lines that name a register
+unfoldable pub places_naming : ℕ → List (Option Line) → Places
+places_naming r ls = places_where (λ n. names r (line_in ls n))
 
-abbrev pub places_of : (Option Line → Bool) → List (Option Line) → Places
-places_of p ls = record { bits = bits_of p ls }
-
-abbrev pub standing_of : List (Option Line) → Places
-standing_of ls = places_of is_some ls
-
-abbrev pub naming_of : ℕ → List (Option Line) → Places
-naming_of r ls = places_of (names r) ls
-
--- ---- what the fields keep
+-- ---- what the fields keep, which nobody has to believe
 
 -- the line of a row, if it passes the check
-abbrev pub passed : Result Line ℕ → Option Line
-passed (Ok l) = Some l
-passed (Err e) = None
+abbrev pub line_or_none : Result Line ℕ → Option Line
+line_or_none (Ok l) = Some l
+line_or_none (Err e) = None
 
 abbrev pub line_if : Bool → Row → Option Line
-line_if true w = passed (checked (drawn_of w))
+line_if true w = line_or_none (checked_line (drawn_of w))
 line_if false w = None
 
+-- the lines of rows, of which those in a set of places count, and the first is that of place k
 abbrev pub lines_from : Places → ℕ → List Row → List (Option Line)
 lines_from s k [] = []
 lines_from s k (w ∷ ws) = line_if (has s k) w ∷ lines_from s (suc k) ws
@@ -57,16 +50,17 @@ lines_from s k (w ∷ ws) = line_if (has s k) w ∷ lines_from s (suc k) ws
 abbrev pub lines_of : Places → List Row → List (Option Line)
 lines_of s ws = lines_from s 0 ws
 
--- exactly the places of lines are marked as standing, so each standing row passes the check; and exactly those whose lines name r for each register r
+-- just the places of lines are marked as standing, so each standing row passes the check; and the index has, for each
+-- register, just the places of the lines that name it
 pub record Agrees (rows : List Row) (standing : Places) (naming : List Places) : Type 0 where
-  pub places : length rows ≡ 64
-  pub registers : length naming ≡ 32
-  pub stands : (n : ℕ) → has standing n ≡ is_some (line_at (lines_of standing rows) n)
-  pub index : (r n : ℕ) → r < 32 → has (slice_index_or naming r none) n ≡ names r (line_at (lines_of standing rows) n)
+  pub places : length rows ≡ PLACES
+  pub registers : length naming ≡ REGISTERS
+  pub stands : standing ≡ places_with_line (lines_of standing rows)
+  pub index : (r : ℕ) → r < REGISTERS → slice_index_or naming r none ≡ places_naming r (lines_of standing rows)
 
--- the places of the lines that name each register, with the line at n naming r, and no longer naming it
-abbrev pub named : ℕ → ℕ → List Places → List Places
-named n r s = slice_set s r (with_place n (slice_index_or s r none))
+-- an index in which the line at n names r, and one in which it names r no longer
+abbrev pub index_with : ℕ → ℕ → List Places → List Places
+index_with n r s = slice_set s r (with_place n (slice_index_or s r none))
 
-abbrev pub unnamed : ℕ → ℕ → List Places → List Places
-unnamed n r s = slice_set s r (without n (slice_index_or s r none))
+abbrev pub index_without : ℕ → ℕ → List Places → List Places
+index_without n r s = slice_set s r (without n (slice_index_or s r none))

@@ -11,15 +11,15 @@ use Rattle.sheet.specs.declared.table.Row.{Row}
 use Rattle.sheet.specs.Numbers.{no_register}
 
 -- the line, or why it is declined: first its kind (4), then its mode set (5), then its registers (1)
-abbrev pub checked_kind : Option Kind → DrawnLine → Result Line ℕ
-checked_kind None d = Err 4
-checked_kind (Some k) d =
+abbrev pub checked_line_of : Option Kind → DrawnLine → Result Line ℕ
+checked_line_of None d = Err 4
+checked_line_of (Some k) d =
     cond (no_modes d.modes) (Err 5)
     (cond (no_register d.x || (no_register d.y || no_register d.z)) (Err 1)
     (Ok record { operation = record { kind = k; modes = record { bits = d.modes } }; x = d.x; y = d.y; z = d.z }))
 
-abbrev pub checked : DrawnLine → Result Line ℕ
-checked d = checked_kind (kind_of d.kind) d
+abbrev pub checked_line : DrawnLine → Result Line ℕ
+checked_line d = checked_line_of (kind_of d.kind) d
 
 -- an answer of the check, with what the checked line says and its refusal by number
 abbrev pub check_answer : Result CheckedLine Refusal → Result Line ℕ

@@ -1,35 +1,46 @@
--- Sets of places, as the bits of a number.
-use Rattle.std.specs.Prelude.{◌≡◌, ℕ, ◌/◌, ◌%◌, ◌^◌, ◌<◌, Bool, true, false, cond, Some, None, Option, ◌==◌, bit_or, bit_xor}
-use Rattle.std.specs.Int.Count.{count_trailing_zeros}
+-- Sets of places: of each of the 64 places, whether it is in the set.
+use Rattle.std.specs.Prelude.{◌≡◌, ℕ, zero, suc, ◌<◌, Bool, true, false, not, ◌&&◌, ◌||◌, List, [], ◌∷◌, Some, None, Option, ◌==◌, slice_index_or}
+use Rattle.std.specs.List.{position_from}
 use Rattle.sheet.specs.declared.places.Places.{Places}
-
-abbrev pub none : Places
-none = record { bits = 0 }
+use Rattle.sheet.specs.declared.TheConstants.{PLACES}
 
 -- whether a place is in a set
 abbrev pub has : Places → ℕ → Bool
-has s n = s.bits / 2 ^ n % 2 == 1
+has s n = slice_index_or s n false
+
+-- what a test says of so many places, from one of them on
+unfoldable pub tests : ℕ → ℕ → (ℕ → Bool) → List Bool
+tests zero n p = []
+tests (suc k) n p = p n ∷ tests k (suc n) p
+
+-- the places that pass a test
+unfoldable pub places_where : (ℕ → Bool) → Places
+places_where p = tests PLACES 0 p
+
+unfoldable pub none : Places
+none = places_where (λ k. false)
 
 -- a set with one place more
-abbrev pub with_place : ℕ → Places → Places
-with_place n s = record { bits = bit_or s.bits (2 ^ n) }
+unfoldable pub with_place : ℕ → Places → Places
+with_place n s = places_where (λ k. has s k || k == n)
 
 -- a set without a place
-abbrev pub without : ℕ → Places → Places
-without n s = cond (has s n) record { bits = bit_xor s.bits (2 ^ n) } s
+unfoldable pub without : ℕ → Places → Places
+without n s = places_where (λ k. has s k && not (k == n))
 
 -- the places of two sets
-abbrev pub union : Places → Places → Places
-union s u = record { bits = bit_or s.bits u.bits }
+unfoldable pub union : Places → Places → Places
+union s u = places_where (λ k. has s k || has u k)
 
 abbrev pub is_none : Places → Bool
-is_none s = s.bits == 0
+is_none [] = true
+is_none (b ∷ s) = not b && is_none s
 
--- the lowest place of a set, computed
-abbrev pub lowest : Places → Option ℕ
-lowest s = cond (is_none s) None (Some (count_trailing_zeros 64 s.bits))
+-- the lowest place of a set, if it has one
+unfoldable pub lowest : Places → Option ℕ
+lowest s = position_from (λ b. b) 0 s
 
 -- the lowest place of a set, in words
 abbrev pub Lowest : Places → Option ℕ → Type 0
 Lowest s None = (n : ℕ) → has s n ≡ false
-Lowest s (Some n) = (n < 64) × (has s n ≡ true) × ((k : ℕ) → k < n → has s k ≡ false)
+Lowest s (Some n) = (n < PLACES) × (has s n ≡ true) × ((k : ℕ) → k < n → has s k ≡ false)

@@ -1,21 +1,22 @@
 ghost use Rattle.std.specs.Prelude.{◌≡◌, None, Some, false, is_some, replicate, slice_set};
-ghost use Rattle.sheet.specs.Boards.{line_at as Line_at, line_answer, named, naming_of, standing_of, unnamed};
+ghost use Rattle.sheet.specs.Boards.{index_with, index_without, line_answer, line_in, places_naming, places_with_line};
 
 use crate::lines::{CheckedLine, DrawnLine, Line};
 use crate::places::{Place, Places};
 use crate::registers::Register;
 use crate::table::Row;
+use crate::{PLACES, REGISTERS};
 use std::marker::Model;
 
 /// The lines of a sheet, by place, with an index from each register to the lines that name it. Contracts see the lines alone.
-#[derive(Debug, Drop)]
+#[derive(Drop)]
 pub struct Board {
     /// Rows, and not optional lines: a struck line keeps its row, and only its mark in `standing` goes.
-    rows: [Row; 64],
+    rows: [Row; PLACES],
     /// The places where a line stands.
     standing: Places,
     /// For each register, the places of the standing lines that name it.
-    naming: [Places; 32],
+    naming: [Places; REGISTERS],
 }
 
 impl Model for Board {
@@ -32,15 +33,15 @@ impl Model for Board {
 }
 
 /// Notes that the line at a place names a register.
-fn name(naming: &mut [Places; 32], place: Place, register: Register)
-    ensures { naming.new ≡ named place register naming.old }
+fn name(naming: &mut [Places; REGISTERS], place: Place, register: Register)
+    ensures { naming.new ≡ index_with place register naming.old }
 {
     naming[register.index()] = naming[register.index()].with(place);
 }
 
 /// Notes that the line at a place names a register no longer.
-fn unname(naming: &mut [Places; 32], place: Place, register: Register)
-    ensures { naming.new ≡ unnamed place register naming.old }
+fn unname(naming: &mut [Places; REGISTERS], place: Place, register: Register)
+    ensures { naming.new ≡ index_without place register naming.old }
 {
     naming[register.index()] = naming[register.index()].without(place);
 }
@@ -48,7 +49,7 @@ fn unname(naming: &mut [Places; 32], place: Place, register: Register)
 impl Board {
     /// No lines.
     pub(crate) fn new() -> Board
-        ensures { result ≡ replicate 64 None }
+        ensures { result ≡ replicate PLACES None }
     {
         Board {
             rows: [Row {
@@ -57,15 +58,15 @@ impl Board {
                 x: 0,
                 y: 0,
                 z: 0,
-            }; 64],
+            }; PLACES],
             standing: Places::none(),
-            naming: [Places::none(); 32],
+            naming: [Places::none(); REGISTERS],
         }
     }
 
     /// The line at a place, made again from its row by the check.
     pub(crate) fn line_at(&self, place: Place) -> Option<CheckedLine>
-        ensures { line_answer result ≡ Line_at self.now place }
+        ensures { line_answer result ≡ line_in self.now place }
     {
         if self.standing.has(place) {
             DrawnLine::from(self.rows[place.index()]).check().ok()
@@ -76,28 +77,28 @@ impl Board {
 
     /// Whether a line stands at a place.
     pub(crate) fn has(&self, place: Place) -> bool
-        ensures { result ≡ is_some (Line_at self.now place) }
+        ensures { result ≡ is_some (line_in self.now place) }
     {
         self.standing.has(place)
     }
 
     /// The places where a line stands.
     pub(crate) fn standing(&self) -> Places
-        ensures { result ≡ standing_of self.now }
+        ensures { result ≡ places_with_line self.now }
     {
         self.standing
     }
 
     /// The places of the lines that name a register.
     pub(crate) fn naming(&self, register: Register) -> Places
-        ensures { result ≡ naming_of register self.now }
+        ensures { result ≡ places_naming register self.now }
     {
         self.naming[register.index()]
     }
 
     /// Puts a line at a free place.
     pub(crate) fn put(&mut self, place: Place, checked: CheckedLine)
-        requires { is_some (Line_at self.old place) ≡ false }
+        requires { is_some (line_in self.old place) ≡ false }
         ensures { self.new ≡ slice_set self.old place (Some checked.line) }
     {
         let line = checked.line;

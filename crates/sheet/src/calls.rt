@@ -1,8 +1,8 @@
 ghost use Rattle.std.specs.Prelude.{◌≡◌, ℕ, ℤ};
 ghost use Rattle.catalogue.specs.Refusals.{numbered};
 ghost use Rattle.sheet.specs.declared.lines.Line.{Line};
-ghost use Rattle.sheet.specs.Calls.{NamesLine, Partnered, Steps, bad_budget, both_read, done, ended_in, enter_answer, enter_asked, enter_table, in_patterns, is_settled, limit_asked, limit_table, limits_read, look_answer, named_partner, outcome_number, partner_asked, pattern_or_none, settle_answer, settle_asked, settle_table, shown, strike_asked, strike_table};
-ghost use Rattle.sheet.specs.Rules.{new_table, settled, table_of};
+ghost use Rattle.sheet.specs.Calls.{NamesLine, Partnered, bad_budget, done, enter_answer, enter_asked, enter_table, in_patterns, is_settled, limit_asked, limit_table, limits_read, look_answer, outcome_number, outcome_of, partner_asked, partner_named, pattern_or_none, ranks_read, settle_answer, settle_asked, settle_table, shown_range, strike_asked, strike_table};
+ghost use Rattle.sheet.specs.Rules.{new_table, settling, table_of};
 
 use crate::board::Board;
 use crate::lines::CheckedLine;
@@ -10,12 +10,13 @@ use crate::places::{Place, Places};
 use crate::registers::Register;
 use crate::sheet::{Look, Sheet};
 use crate::table::{Outcome, State, Table};
+use crate::{MOST_STEPS, REGISTERS};
 use catalogue::interface::Catalogue;
 use catalogue::types::{Range, Refusal};
 
 /// How a settle that leaves a state ended.
 impl From<State> for Outcome {
-    ghost from_gives = { λ s o. outcome_number o ≡ ended_in s };
+    ghost from_gives = { λ s o. outcome_number o ≡ outcome_of s };
 
     fn from(state: State) -> Outcome {
         match state {
@@ -30,7 +31,7 @@ impl From<State> for Outcome {
 fn is_bad_budget(budget: u32) -> bool
     ensures { result ≡ bad_budget budget }
 {
-    budget == 0 || budget > 65535
+    budget == 0 || budget > MOST_STEPS
 }
 
 impl Table {
@@ -39,8 +40,8 @@ impl Table {
         ensures { result ≡ table_of all }
     {
         Table {
-            limits: [all; 32],
-            ranges: [all; 32],
+            limits: [all; REGISTERS],
+            ranges: [all; REGISTERS],
             lines: Board::new(),
             due: Places::none(),
             state: State::Settled,
@@ -60,7 +61,7 @@ impl<C: Catalogue> Sheet<C> {
     }
 
     /// The range from one pattern to another, or why it is no range of readings.
-    fn limits(&self, low: u32, high: u32) -> Result<Range, Refusal>
+    fn range_between(&self, low: u32, high: u32) -> Result<Range, Refusal>
         ensures { numbered result ≡ limits_read ((C.meaning self.now.catalogue).reads low) ((C.meaning self.now.catalogue).reads high) }
     {
         let (low, high) = self.ranks(low, high)?;
@@ -77,7 +78,7 @@ impl<C: Catalogue> Sheet<C> {
         ensures catalogue { self.new.catalogue ≡ self.old.catalogue }
     {
         let register = Register::try_from(register)?;
-        let limits = self.limits(low, high)?;
+        let limits = self.range_between(low, high)?;
         self.table.limit(&self.catalogue, register, limits);
         Ok(())
     }
@@ -122,7 +123,7 @@ impl<C: Catalogue> Sheet<C> {
 
     /// The ranks of two patterns.
     fn ranks(&self, x: u32, z: u32) -> Result<(i32, i32), Refusal>
-        ensures { numbered result ≡ both_read ((C.meaning self.now.catalogue).reads x) ((C.meaning self.now.catalogue).reads z) }
+        ensures { numbered result ≡ ranks_read ((C.meaning self.now.catalogue).reads x) ((C.meaning self.now.catalogue).reads z) }
     {
         Ok((self.catalogue.rank(x)?, self.catalogue.rank(z)?))
     }
@@ -140,12 +141,10 @@ impl<C: Catalogue> Sheet<C> {
     }
 
     /// Steps until rest or until the budget is spent: how it ended, and how many steps were made.
-    #[tactic(auto, using(crate::proofs::Settles::settled_steps))]
     pub fn settle(&mut self, budget: u32) -> Result<(Outcome, u32), Refusal>
         ensures answer { settle_answer result ≡ settle_asked (C.meaning self.old.catalogue) budget self.old.table }
         ensures table { self.new.table ≡ settle_table (C.meaning self.old.catalogue) budget self.old.table }
         ensures catalogue { self.new.catalogue ≡ self.old.catalogue }
-        ensures words { (b : ℕ) → Steps (C.meaning self.old.catalogue) b self.old.table (settled (C.meaning self.old.catalogue) b self.old.table) }
     {
         if is_bad_budget(budget) {
             return Err(Refusal::BudgetOutOfRange);
@@ -168,7 +167,7 @@ impl<C: Catalogue> Sheet<C> {
 impl<C: Catalogue> Look<'_, C> {
     /// A register's range.
     pub fn range(&self, register: u32) -> Result<Range, Refusal>
-        ensures { numbered result ≡ shown register self.now.sheet.now.table }
+        ensures { numbered result ≡ shown_range register self.now.sheet.now.table }
     {
         let register = Register::try_from(register)?;
         Ok(self.sheet.table.ranges[register.index()])
@@ -176,7 +175,7 @@ impl<C: Catalogue> Look<'_, C> {
 
     /// A register's range by the patterns of its low and its high end.
     pub fn patterns(&self, register: u32) -> Result<(u32, u32), Refusal>
-        ensures { numbered result ≡ in_patterns (C.meaning self.now.sheet.now.catalogue) (shown register self.now.sheet.now.table) }
+        ensures { numbered result ≡ in_patterns (C.meaning self.now.sheet.now.catalogue) (shown_range register self.now.sheet.now.table) }
     {
         let range = self.range(register)?;
         let catalogue = &self.sheet.catalogue;
@@ -192,7 +191,7 @@ impl<C: Catalogue> Look<'_, C> {
 
     /// Some y of a line's shown range that makes an allowed triple with x and z, as a pattern.
     fn partner_of(&self, checked: &CheckedLine, x: i32, z: i32) -> Option<u32>
-        ensures { result ≡ pattern_or_none (C.meaning self.now.sheet.now.catalogue) (named_partner (C.meaning self.now.sheet.now.catalogue) checked.now.line (x, z) self.now.sheet.now.table) }
+        ensures { result ≡ pattern_or_none (C.meaning self.now.sheet.now.catalogue) (partner_named (C.meaning self.now.sheet.now.catalogue) checked.now.line (x, z) self.now.sheet.now.table) }
     {
         let line = checked.line;
         let y = self.sheet.table.ranges[line.y.index()];

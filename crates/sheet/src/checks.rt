@@ -1,5 +1,5 @@
 ghost use Rattle.std.specs.Prelude.{◌≡◌};
-ghost use Rattle.sheet.specs.Lines.{check_answer, checked, drawn_of, row_of};
+ghost use Rattle.sheet.specs.Lines.{check_answer, checked_line, drawn_of, row_of};
 
 use crate::lines::{CheckedLine, DrawnLine, Line};
 use crate::registers::Register;
@@ -9,7 +9,7 @@ use catalogue::types::{Kind, Modes, Operation, Refusal};
 impl DrawnLine {
     /// The checked line, or why it is declined: its kind, then its mode set, then its registers.
     pub fn check(self) -> Result<CheckedLine, Refusal>
-        ensures { check_answer result ≡ checked self }
+        ensures { check_answer result ≡ checked_line self }
     {
         let operation = Operation {
             kind: Kind::try_from(self.kind)?,

@@ -1,6 +1,6 @@
 ghost use Rattle.std.specs.Prelude.{◌≡◌, false, is_some};
-ghost use Rattle.sheet.specs.Boards.{line_at};
-ghost use Rattle.sheet.specs.Rules.{at_rest, entered, limit_event, limited, reacted, settled, struck};
+ghost use Rattle.sheet.specs.Boards.{line_in};
+ghost use Rattle.sheet.specs.Rules.{at_rest, limit_event, reaction, settling, table_after_enter, table_after_limit, table_after_strike};
 
 use crate::lines::CheckedLine;
 use crate::places::Place;
@@ -21,7 +21,7 @@ impl State {
 impl Table {
     /// What the table makes of an event in the state that it is in: one match of both, as the rules' table has them.
     fn react<C: Catalogue>(&mut self, catalogue: &C, event: Event)
-        ensures { self.new ≡ reacted (C.meaning catalogue.now) self.old.state event self.old }
+        ensures { self.new ≡ reaction (C.meaning catalogue.now) self.old.state event self.old }
     {
         // The event is lent, since the proof reads nothing out of an event that a tuple holds itself.
         match (self.state, &event) {
@@ -47,7 +47,7 @@ impl Table {
 
     /// Replaces a register's limits.
     pub(crate) fn limit<C: Catalogue>(&mut self, catalogue: &C, register: Register, limits: Range)
-        ensures { self.new ≡ limited (C.meaning catalogue.now) register limits self.old }
+        ensures { self.new ≡ table_after_limit (C.meaning catalogue.now) register limits self.old }
     {
         let event = self.limit_event(register, limits);
         self.limits[register.index()] = limits;
@@ -56,8 +56,8 @@ impl Table {
 
     /// Enters a checked line at a free place.
     pub(crate) fn enter<C: Catalogue>(&mut self, catalogue: &C, place: Place, checked: CheckedLine)
-        requires { is_some (line_at self.old.lines place) ≡ false }
-        ensures { self.new ≡ entered (C.meaning catalogue.now) place checked.line self.old }
+        requires { is_some (line_in self.old.lines place) ≡ false }
+        ensures { self.new ≡ table_after_enter (C.meaning catalogue.now) place checked.line self.old }
     {
         self.lines.put(place, checked);
         self.react(catalogue, Event::Entered(place));
@@ -65,7 +65,7 @@ impl Table {
 
     /// Strikes the line at a place.
     pub(crate) fn strike<C: Catalogue>(&mut self, catalogue: &C, place: Place)
-        ensures { self.new ≡ struck (C.meaning catalogue.now) place self.old }
+        ensures { self.new ≡ table_after_strike (C.meaning catalogue.now) place self.old }
     {
         self.lines.remove(place);
         self.react(catalogue, Event::Struck);
@@ -74,7 +74,7 @@ impl Table {
     /// Steps until rest, or until the budget is spent; answers how many steps were made.
     #[tactic(auto, using(crate::proofs::Settles::settled_turn))]
     pub(crate) fn settle<C: Catalogue>(&mut self, catalogue: &C, budget: u32) -> u32
-        ensures { settled (C.meaning catalogue.now) budget self.old ≡ record { table = self.new; steps = result } }
+        ensures { settling (C.meaning catalogue.now) budget self.old ≡ record { table = self.new; steps = result } }
     {
         for made in 0..budget {
             if self.state.is_at_rest() {

@@ -1,4 +1,5 @@
 ghost use Rattle.std.specs.Prelude.{◌<◌};
+ghost use Rattle.sheet.specs.declared.TheConstants.{REGISTERS};
 
 use crate::registers::Register;
 use catalogue::types::Operation;
@@ -30,7 +31,7 @@ pub struct CheckedLine {
     ghost some_mode: { 0 < line.operation.modes.bits },
     ghost no_other_mode: { line.operation.modes.bits < 16 },
     // A clause sees a register as its number, so what the type says of each is said again here, for those who read clauses.
-    ghost x_exists: { line.x < 32 },
-    ghost y_exists: { line.y < 32 },
-    ghost z_exists: { line.z < 32 },
+    ghost x_exists: { line.x < REGISTERS },
+    ghost y_exists: { line.y < REGISTERS },
+    ghost z_exists: { line.z < REGISTERS },
 }

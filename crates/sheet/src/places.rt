@@ -1,9 +1,10 @@
 ghost use Rattle.std.specs.Prelude.{◌≡◌, ◌<◌};
 
+use crate::PLACES;
 use catalogue::types::Refusal;
 use std::marker::Model;
 
-/// One of a sheet's 64 places for lines. A type apart from `Register`, and not one with a parameter: that would need a
+/// One of a sheet's places for lines. A type apart from `Register`, and not one with a parameter: that would need a
 /// trait for the refusal, which is longer than what the two repeat.
 #[derive(Clone, Copy, Debug, PartialEq, Eq)]
 pub struct Place {
@@ -17,7 +18,9 @@ impl Model for Place {
 
     ghost view = { λ p. p.number };
 
-    ghost invariant = { λ p. p.number < 64 };
+    ghost use Rattle.sheet.specs.declared.TheConstants.{PLACES};
+
+    ghost invariant = { λ p. p.number < PLACES };
 
     ghost inverse = { λ n. record { number = n } };
 }
@@ -26,7 +29,7 @@ impl Place {
     /// The place's number, as an index.
     pub fn index(self) -> usize
         ensures value { result ≡ self }
-        ensures below { result < 64 }
+        ensures below { result < PLACES }
     {
         self.number as usize
     }
@@ -40,7 +43,7 @@ impl TryFrom<u32> for Place {
     ghost try_from_gives = { NamesPlace };
 
     fn try_from(number: u32) -> Result<Self, Refusal> {
-        if number > 63 {
+        if number as usize >= PLACES {
             return Err(Refusal::NoLineThere);
         }
         Ok(Place {
@@ -50,9 +53,28 @@ impl TryFrom<u32> for Place {
 }
 
 /// A set of places: place n is in it if bit n is set. So a step finds and marks lines without a scan and without a heap.
-#[derive(Clone, Copy, Debug, PartialEq, Eq)]
+/// A contract sees the set and not its bits.
+#[derive(Clone, Copy)]
 pub struct Places {
-    pub(crate) bits: u64,
+    bits: u64,
+}
+
+impl Model for Places {
+    ghost use Rattle.std.specs.Prelude.{Bool, List, ◌<◌, ◌^◌};
+
+    ghost Value = { List Bool };
+
+    ghost use Rattle.sheet.specs.Bits.{number_back, number_of, set_of};
+
+    ghost view = { λ p. set_of p.bits };
+
+    ghost invariant = { λ p. p.bits < 2 ^ 64 };
+
+    ghost inverse = { λ s. record { bits = number_of s } };
+
+    ghost use Rattle.std.proofs.Common.{ap};
+
+    ghost inverse_ok = { λ p h. ap (λ b. record { bits = b }) (number_back p.bits h) };
 }
 
 impl Places {
@@ -85,12 +107,8 @@ impl Places {
     pub(crate) fn without(self, place: Place) -> Places
         ensures { result ≡ without place self }
     {
-        if self.has(place) {
-            Places {
-                bits: self.bits ^ (1 << place.number),
-            }
-        } else {
-            self
+        Places {
+            bits: self.bits & !(1 << place.number),
         }
     }
 
@@ -111,7 +129,6 @@ impl Places {
     }
 
     /// The lowest place of the set.
-    #[tactic(auto, using(crate::proofs::PlaceSets::lowest_words))]
     pub(crate) fn lowest(self) -> Option<Place>
         ensures value { result ≡ lowest self }
         ensures words { Lowest self result }

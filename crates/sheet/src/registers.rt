@@ -1,9 +1,10 @@
 ghost use Rattle.std.specs.Prelude.{◌≡◌, ◌<◌};
 
+use crate::REGISTERS;
 use catalogue::types::Refusal;
 use std::marker::Model;
 
-/// One of a sheet's 32 registers.
+/// One of a sheet's registers.
 #[derive(Clone, Copy, Debug, PartialEq, Eq)]
 pub struct Register {
     number: u8,
@@ -16,7 +17,9 @@ impl Model for Register {
 
     ghost view = { λ r. r.number };
 
-    ghost invariant = { λ r. r.number < 32 };
+    ghost use Rattle.sheet.specs.declared.TheConstants.{REGISTERS};
+
+    ghost invariant = { λ r. r.number < REGISTERS };
 
     ghost inverse = { λ n. record { number = n } };
 }
@@ -25,7 +28,7 @@ impl Register {
     /// The register's number, as an index.
     pub fn index(self) -> usize
         ensures value { result ≡ self }
-        ensures below { result < 32 }
+        ensures below { result < REGISTERS }
     {
         self.number as usize
     }
@@ -39,7 +42,7 @@ impl TryFrom<u32> for Register {
     ghost try_from_gives = { NamesRegister };
 
     fn try_from(number: u32) -> Result<Self, Refusal> {
-        if number > 31 {
+        if number as usize >= REGISTERS {
             return Err(Refusal::NoSuchRegister);
         }
         Ok(Register {

@@ -1,6 +1,6 @@
 ghost use Rattle.std.specs.Prelude.{◌≡◌, Some};
 ghost use Rattle.catalogue.specs.Ranges.{meet};
-ghost use Rattle.sheet.specs.Rules.{absorbed, changed, cut as Cut, cut_to_limits, given as Given, left, made_due, narrowed_by, or_void, rested, returned, step as Stepped, voided};
+ghost use Rattle.sheet.specs.Rules.{cut, cuts, narrowed_table, ranges_of, rest_or_open, step, table_at_limits, table_in_limits, table_left, table_or_void, table_with_due, table_with_range, void_table};
 
 use crate::lines::{CheckedLine, Line};
 use crate::places::{Place, Places};
@@ -12,7 +12,7 @@ use catalogue::types::{Range, Triple};
 impl Table {
     /// Open if a line is due, settled if none is.
     pub(crate) fn rest(&mut self)
-        ensures { self.new ≡ rested self.old }
+        ensures { self.new ≡ rest_or_open self.old }
     {
         self.state = if self.due.is_none() {
             State::Settled
@@ -23,7 +23,7 @@ impl Table {
 
     /// Void: nothing is due, and no range is kept.
     pub(crate) fn make_void(&mut self)
-        ensures { self.new ≡ voided self.old }
+        ensures { self.new ≡ void_table self.old }
     {
         let limits = self.limits;
         self.ranges = limits;
@@ -33,7 +33,7 @@ impl Table {
 
     /// At rest or open with what is left, or void where nothing is.
     fn conclude(&mut self, outcome: Result<(), Empty>)
-        ensures { self.new ≡ or_void self.old (left self.old outcome) }
+        ensures { self.new ≡ table_or_void self.old (table_left self.old outcome) }
     {
         match outcome {
             Ok(()) => self.rest(),
@@ -43,7 +43,7 @@ impl Table {
 
     /// All ranges return to the limits, and all lines are due.
     pub(crate) fn return_to_limits(&mut self)
-        ensures { self.new ≡ returned self.old }
+        ensures { self.new ≡ table_at_limits self.old }
     {
         let limits = self.limits;
         self.ranges = limits;
@@ -53,7 +53,7 @@ impl Table {
 
     /// A register's range becomes another, and the lines that name the register become due.
     fn change(&mut self, register: Register, new: Range)
-        ensures { self.new ≡ changed register new self.old }
+        ensures { self.new ≡ table_with_range register new self.old }
     {
         self.ranges[register.index()] = new;
         self.due = self.due.union(self.lines.naming(register));
@@ -61,8 +61,8 @@ impl Table {
 
     /// Cuts a register's range to what it has in common with another.
     fn cut(&mut self, register: Register, by: Range) -> Result<(), Empty>
-        ensures void { voided self.new ≡ voided self.old }
-        ensures after { Cut register by self.old ≡ left self.new result }
+        ensures void { void_table self.new ≡ void_table self.old }
+        ensures after { cut register by self.old ≡ table_left self.new result }
     {
         let old = self.ranges[register.index()];
         let new = old.meet(by);
@@ -77,7 +77,7 @@ impl Table {
 
     /// Cuts a register's range to its limits; the table then rests, is open or is void.
     pub(crate) fn cut_to_limits(&mut self, register: Register)
-        ensures { self.new ≡ cut_to_limits register self.old }
+        ensures { self.new ≡ table_in_limits register self.old }
     {
         let limits = self.limits[register.index()];
         let left = self.cut(register, limits);
@@ -86,7 +86,7 @@ impl Table {
 
     /// The line at a place is due.
     pub(crate) fn make_due(&mut self, place: Place)
-        ensures { self.new ≡ made_due place self.old }
+        ensures { self.new ≡ table_with_due place self.old }
     {
         self.due = self.due.with(place);
         self.state = State::Open;
@@ -94,8 +94,8 @@ impl Table {
 
     /// Cuts each register of a line to its result.
     fn absorb(&mut self, line: &Line, results: Triple) -> Result<(), Empty>
-        ensures void { voided self.new ≡ voided self.old }
-        ensures after { absorbed line.now (Some results) self.old ≡ left self.new result }
+        ensures void { void_table self.new ≡ void_table self.old }
+        ensures after { cuts line.now (Some results) self.old ≡ table_left self.new result }
     {
         self.cut(line.x, results.x)?;
         self.cut(line.y, results.y)?;
@@ -104,7 +104,7 @@ impl Table {
 
     /// The ranges of a line's registers.
     fn given(&self, line: &Line) -> Triple
-        ensures { result ≡ Given line.now self.now }
+        ensures { result ≡ ranges_of line.now self.now }
     {
         Triple {
             x: self.ranges[line.x.index()],
@@ -115,8 +115,8 @@ impl Table {
 
     /// Narrows a line once, from the ranges as they are.
     fn narrow<C: Catalogue>(&mut self, catalogue: &C, line: &Line) -> Result<(), Empty>
-        ensures void { voided self.new ≡ voided self.old }
-        ensures after { narrowed_by (C.meaning catalogue.now) line.now self.old ≡ left self.new result }
+        ensures void { void_table self.new ≡ void_table self.old }
+        ensures after { narrowed_table (C.meaning catalogue.now) line.now self.old ≡ table_left self.new result }
     {
         let results = catalogue
             .narrow(line.operation, self.given(line))
@@ -126,7 +126,7 @@ impl Table {
 
     /// Narrows a checked line; the table then rests, is open or is void.
     fn step_line<C: Catalogue>(&mut self, catalogue: &C, checked: &CheckedLine)
-        ensures { self.new ≡ or_void self.old (narrowed_by (C.meaning catalogue.now) checked.now.line self.old) }
+        ensures { self.new ≡ table_or_void self.old (narrowed_table (C.meaning catalogue.now) checked.now.line self.old) }
     {
         let left = self.narrow(catalogue, &checked.line);
         self.conclude(left);
@@ -134,7 +134,7 @@ impl Table {
 
     /// Takes the line at the lowest due place, which stops being due, and narrows it.
     pub(crate) fn step<C: Catalogue>(&mut self, catalogue: &C)
-        ensures { self.new ≡ Stepped (C.meaning catalogue.now) self.old }
+        ensures { self.new ≡ step (C.meaning catalogue.now) self.old }
     {
         let Some(place) = self.due.lowest() else {
             return;

@@ -1,11 +1,12 @@
 use crate::board::Board;
 use crate::places::{Place, Places};
 use crate::registers::Register;
+use crate::REGISTERS;
 use catalogue::types::Range;
 
 /// The line at a place, as plain numbers, which the check makes a line again: the row of a free place is no line. A type
 /// apart from `DrawnLine`: a row is copied from the table, a drawn line is moved and used up by its check.
-#[derive(Clone, Copy, Debug, PartialEq, Eq)]
+#[derive(Clone, Copy)]
 pub struct Row {
     pub(crate) kind: u8,
     pub(crate) modes: u8,
@@ -21,12 +22,12 @@ pub enum State {
     Void,
 }
 
-/// What a sheet holds: 32 registers and 64 places, in arrays, since a sheet allocates nothing.
-#[derive(Debug, Drop)]
+/// What a sheet holds, in arrays, since a sheet allocates nothing.
+#[derive(Drop)]
 pub struct Table {
-    pub(crate) limits: [Range; 32],
+    pub(crate) limits: [Range; REGISTERS],
     /// Beside the limits and not in one struct with them: the return to the limits copies one whole array to the other.
-    pub(crate) ranges: [Range; 32],
+    pub(crate) ranges: [Range; REGISTERS],
     /// The lines, by place.
     pub(crate) lines: Board,
     /// The places of the lines that are due.

@@ -1,8 +1,8 @@
-use Rattle.std.proofs.Common.{rules, ◌≡◌, ◌<◌, true, get_or, sym, subst, ap, ◌∙◌, arith}
-use Rattle.sheet.proofs.Boards.{answered, line_there}
-use Rattle.sheet.specs.Boards.{line_answer, line_if, passed}
+use Rattle.std.proofs.Common.{rules, ◌≡◌, ◌<◌, true, false, is_some, get_or, sym, subst, ap, ◌∙◌, arith}
+use Rattle.sheet.proofs.Boards.{answered, has_of_view, line_there, none_from}
+use Rattle.sheet.specs.Boards.{line_answer, line_in, line_if, line_or_none}
 use Rattle.sheet.specs.declared.table.Row.{Row}
-use Rattle.sheet.specs.Lines.{checked, drawn_of}
+use Rattle.sheet.specs.Lines.{checked_line, drawn_of}
 use Rattle.sheet.specs.Places.{has}
 use Rattle.sheet.proofs.board.Board.line_at.Goals as goal
 
@@ -16,5 +16,10 @@ returns-then-has c =
     let long = c.self.invariant.places in
     let there = line_there b.standing b.rows c.args.self.now n d c.self.view_is (omega arith) in
     ap line_answer c.ok.ensures.value ∙ answered c.check.result
-    ∙ ap passed (c.check.ensures ∙ ap checked (c.from.ensures ∙ ap (λ i. drawn_of (get_or b.rows i d)) c.index.ensures.value))
+    ∙ ap line_or_none (c.check.ensures ∙ ap checked_line (c.from.ensures ∙ ap (λ i. drawn_of (get_or b.rows i d)) c.index.ensures.value))
     ∙ ap (λ t. line_if t (get_or b.rows n d)) (sym stands) ∙ sym there
+
+pub returns-else-has : goal.returns-else-has
+returns-else-has c =
+    let off : is_some (line_in c.args.self.now c.args.place) ≡ false = sym (has_of_view _ _ _ c.self.invariant _ c.self.view_is c.args.place) ∙ sym c.has.ensures ∙ c.if-has.false in
+    sym (none_from _ off)

@@ -1,6 +1,6 @@
 use Rattle.std.proofs.Common.{rules, ◌≡◌, ◌<◌, Some, None, length, set, ap, ◌∙◌, arith}
 use Rattle.sheet.proofs.Boards.{in_range, lines_length, lines_take, taken_agrees}
-use Rattle.sheet.specs.Boards.{line_at, lines_of, unnamed}
+use Rattle.sheet.specs.Boards.{line_in, lines_of, index_without}
 use Rattle.sheet.proofs.board.Board.remove.Goals as goal
 
 pub invariant_of-self : goal.invariant_of-self
@@ -8,10 +8,10 @@ invariant_of-self c =
     let b = c.self.inside in
     let n = c.args.place in
     let l = c.in-Some.checked.line in
-    let here : line_at c.args.self.now n ≡ Some l = search rules in
-    let there : line_at (lines_of b.standing b.rows) n ≡ Some l = ap (λ ls. line_at ls n) c.self.view_is ∙ here in
+    let here : line_in c.args.self.now n ≡ Some l = search rules in
+    let there : line_in (lines_of b.standing b.rows) n ≡ Some l = ap (λ ls. line_in ls n) c.self.view_is ∙ here in
     let lt : n < 64 = let h = in_range _ n l there in let e = lines_length b.standing 0 b.rows in let f = c.self.invariant.places in omega arith in
-    let naming = c.unname-in-Some-2.ensures ∙ ap (unnamed n l.z) (c.unname-in-Some.ensures ∙ ap (unnamed n l.y) c.unname.ensures) in
+    let naming = c.unname-in-Some-2.ensures ∙ ap (index_without n l.z) (c.unname-in-Some.ensures ∙ ap (index_without n l.y) c.unname.ensures) in
     rw (c.without-self-inside.ensures, naming) (taken_agrees b.rows b.standing b.naming c.self.invariant n lt c.in-Some.checked there)
 
 pub returns-in-Some : goal.returns-in-Some
@@ -19,7 +19,7 @@ returns-in-Some c =
     let b = c.self.inside in
     let n = c.args.place in
     let l = c.in-Some.checked.line in
-    let here : line_at c.args.self.now n ≡ Some l = search rules in
-    let there : line_at (lines_of b.standing b.rows) n ≡ Some l = ap (λ ls. line_at ls n) c.self.view_is ∙ here in
-    let lt : n < length b.rows = let h = in_range _ n l there in let e = lines_length b.standing 0 b.rows in omega arith in
-    ap (λ s. lines_of s b.rows) c.without-self-inside.ensures ∙ lines_take b.standing b.rows n lt (record { kind = 0; modes = 0; x = 0; y = 0; z = 0 }) ∙ ap (λ ls. set ls n None) c.self.view_is
+    let here : line_in c.args.self.now n ≡ Some l = search rules in
+    let there : line_in (lines_of b.standing b.rows) n ≡ Some l = ap (λ ls. line_in ls n) c.self.view_is ∙ here in
+    let lt : n < 64 = let h = in_range _ n l there in let e = lines_length b.standing 0 b.rows in let f = c.self.invariant.places in omega arith in
+    ap (λ s. lines_of s b.rows) c.without-self-inside.ensures ∙ lines_take b.standing b.rows c.self.invariant.places n lt (record { kind = 0; modes = 0; x = 0; y = 0; z = 0 }) ∙ ap (λ ls. set ls n None) c.self.view_is
