@@ -72,7 +72,7 @@ module _ (t : Table) (f : Formed t) where
         (or_cases (has t.due k) (has (places_naming r t.lines) k) (union_from t.due (places_naming r t.lines) k d));
   }
 
-  formed_cut : (r : ℕ) (b : Range) → Formed (cut_table r b t)
+  pub formed_cut : (r : ℕ) (b : Range) → Formed (cut_table r b t)
   formed_cut r b = cond_both (smaller (meet (range_at t r) b) (range_at t r)) (table_with_range r (meet (range_at t r) b) t) t Formed (λ _. formed_range r (meet (range_at t r) b)) (λ _. f)
 
   formed_left : (r : ℕ) (b : Range) → FormedO (cut r b t)
@@ -128,7 +128,7 @@ module _ (m : Meaning) where
   kept_at None t h = h
   kept_at (Some n) t h = kept_line (line_at t n) (record t { due = without n t.due }) (formed_taken n t h.formed)
 
-  kept_step : (s : State) (t : Table) → Kept t → Kept (reaction m s Step t)
+  pub kept_step : (s : State) (t : Table) → Kept t → Kept (reaction m s Step t)
   kept_step Settled t h = h
   kept_step Open t h = kept_at (lowest t.due) t h
   kept_step Void t h = h

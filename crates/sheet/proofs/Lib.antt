@@ -5,5 +5,8 @@ pub mod PlaceBits
 pub mod Boards
 pub mod Meets
 pub mod Kept
+pub mod Wordings
+pub mod Recounts
 pub mod Settles
 pub mod Reaching
+pub mod Partnering

@@ -1,15 +1,20 @@
 -- What a step, and each call that changes a sheet, makes of it in words: its limits, ranges, lines, due places and state before (t) and after (u).
-use Rattle.std.specs.Prelude.{◌≡◌, ◌≢◌, ℕ, zero, suc, ◌<◌, ◌≤◌, Bool, true, false, cond, ◌⊎◌, ◌↔◌, is_some, Some, None, Option, ◌==◌, slice_set}
+use Rattle.std.specs.Prelude.{◌≡◌, ◌≢◌, ℕ, zero, suc, ◌<◌, ◌≤◌, Bool, true, false, cond, ◌⊎◌, ◌↔◌, ℤ, Some, None, Ok, Err, Option, Result, ◌==◌, slice_set}
 use Rattle.catalogue.specs.declared.types.Range.{Range}
+use Rattle.catalogue.specs.declared.types.Refusal.{Refusal}
 use Rattle.catalogue.specs.declared.types.Triple.{Triple}
 use Rattle.catalogue.specs.Meanings.{Meaning}
-use Rattle.catalogue.specs.Ranges.{Proper, holds_all, meet}
+use Rattle.catalogue.specs.Ranges.{Holds, Proper, holds_all, meet}
 use Rattle.sheet.specs.declared.lines.Line.{Line}
 use Rattle.sheet.specs.declared.table.State.TheVariants.{Settled, Open, Void}
 use Rattle.sheet.specs.declared.table.Table.{Table}
 use Rattle.sheet.specs.declared.TheConstants.{PLACES, REGISTERS}
 use Rattle.sheet.specs.Places.{Lowest, has, is_none}
 use Rattle.sheet.specs.Rules.{limits_at, line_at, range_at, ranges_of, stands}
+
+-- three ranks make an allowed triple of a line
+abbrev pub Allowed : Meaning → Line → ℤ → ℤ → ℤ → Type 0
+Allowed m l x y z = m.allowed l.operation.kind l.operation.modes x y z ≡ true
 
 -- a line names a register
 abbrev pub Names : Line → ℕ → Type 0
@@ -125,3 +130,11 @@ pub record IsStrike (n : ℕ) (t u : Table) : Type 0 where
   pub limits : u.limits ≡ t.limits
   pub lines : u.lines ≡ slice_set t.lines n None
   pub returns : AtLimits u
+
+-- ---- what partner answers for a line and two readings, on a table that is not void: the pattern of some y of y's shown
+-- range that makes an allowed triple, or none, exactly if there is none
+
+abbrev pub IsPartnerAnswer : Meaning → Line → ℤ → ℤ → Table → Result (Option ℕ) Refusal → Type 0
+IsPartnerAnswer m l x z t (Ok (Some p)) = (y : ℤ) × (Holds (range_at t l.y) y × (Allowed m l x y z × (p ≡ m.writes y)))
+IsPartnerAnswer m l x z t (Ok None) = (y : ℤ) → Holds (range_at t l.y) y → Allowed m l x y z → ⊥
+IsPartnerAnswer m l x z t (Err e) = ⊥

@@ -1,11 +1,14 @@
-ghost use Rattle.std.specs.Prelude.{◌≡◌, ℕ, ℤ};
+ghost use Rattle.std.specs.Prelude.{◌≡◌, ◌≢◌, ℤ, IfOk, List, OnOk};
+ghost use Rattle.catalogue.specs.declared.types.Range.{Range};
 ghost use Rattle.catalogue.specs.Refusals.{numbered};
 ghost use Rattle.sheet.specs.declared.lines.Line.{Line};
-ghost use Rattle.sheet.specs.Calls.{NamesLine, Partnered, bad_budget, done, enter_answer, enter_asked, enter_table, in_patterns, is_settled, limit_asked, limit_table, limits_read, look_answer, outcome_number, outcome_of, partner_asked, partner_named, pattern_or_none, ranks_read, settle_answer, settle_asked, settle_table, shown_range, strike_asked, strike_table};
-ghost use Rattle.sheet.specs.Rules.{new_table, settling, table_of};
+ghost use Rattle.sheet.specs.Calls.{NamesLine, bad_budget, done, enter_answer, enter_asked, enter_table, in_patterns, is_settled, limit_asked, limit_table, limits_asked, limits_read, line_asked, look_answer, outcome_number, outcome_of, partner_asked, partner_named, pattern_or_none, ranks_read, settle_answer, settle_asked, settle_table, shown_range, strike_asked, strike_table};
+ghost use Rattle.sheet.specs.Histories.{Call, after, called, enter, limit, line_of, settle, strike};
+ghost use Rattle.sheet.specs.Rules.{new_table, table_of};
+ghost use Rattle.sheet.specs.Words.{IsEnter, IsLimit, IsPartnerAnswer, IsSettle, IsStrike};
 
 use crate::board::Board;
-use crate::lines::CheckedLine;
+use crate::lines::{CheckedLine, Line};
 use crate::places::{Place, Places};
 use crate::registers::Register;
 use crate::sheet::{Look, Sheet};
@@ -75,6 +78,8 @@ impl<C: Catalogue> Sheet<C> {
     pub fn limit(&mut self, register: u32, low: u32, high: u32) -> Result<(), Refusal>
         ensures answer { numbered result ≡ done (limit_asked (C.meaning self.old.catalogue) register low high) }
         ensures table { self.new.table ≡ limit_table (C.meaning self.old.catalogue) register (limit_asked (C.meaning self.old.catalogue) register low high) self.old.table }
+        ensures call { self.new.table ≡ called (C.meaning self.old.catalogue) (limit register low high) self.old.table }
+        ensures words { (b : Range) → limit_asked (C.meaning self.old.catalogue) register low high ≡ Ok b → IsLimit register b self.old.table self.new.table }
         ensures catalogue { self.new.catalogue ≡ self.old.catalogue }
     {
         let register = Register::try_from(register)?;
@@ -87,6 +92,8 @@ impl<C: Catalogue> Sheet<C> {
     pub fn enter(&mut self, place: u32, line: CheckedLine) -> Result<(), (Refusal, CheckedLine)>
         ensures answer { enter_answer result ≡ enter_asked place line self.old.table }
         ensures table { self.new.table ≡ enter_table (C.meaning self.old.catalogue) place line self.old.table }
+        ensures call { self.new.table ≡ called (C.meaning self.old.catalogue) (enter place line.line) self.old.table }
+        ensures words { OnOk result (IsEnter place line.line self.old.table self.new.table) }
         ensures catalogue { self.new.catalogue ≡ self.old.catalogue }
     {
         // No `map_err` with `?`: the line goes back, or on to be entered.
@@ -114,11 +121,36 @@ impl<C: Catalogue> Sheet<C> {
     pub fn strike(&mut self, place: u32) -> Result<(), Refusal>
         ensures answer { numbered result ≡ strike_asked place self.old.table }
         ensures table { self.new.table ≡ strike_table (C.meaning self.old.catalogue) place self.old.table }
+        ensures call { self.new.table ≡ called (C.meaning self.old.catalogue) (strike place) self.old.table }
+        ensures words { OnOk result (IsStrike place self.old.table self.new.table) }
         ensures catalogue { self.new.catalogue ≡ self.old.catalogue }
     {
         let place = self.place_of_line(place)?;
         self.table.strike(&self.catalogue, place);
         Ok(())
+    }
+
+    /// A register's limits by the patterns of their low and their high end, on a void sheet too.
+    pub fn limits(&self, register: u32) -> Result<(u32, u32), Refusal>
+        ensures { numbered result ≡ in_patterns (C.meaning self.now.catalogue) (limits_asked register self.now.table) }
+    {
+        let register = Register::try_from(register)?;
+        Ok(self.patterns(self.table.limits[register.index()]))
+    }
+
+    /// The line that stands at a place, or none.
+    pub fn line(&self, place: u32) -> Result<Option<Line>, Refusal>
+        ensures { numbered result ≡ line_asked place self.now.table }
+    {
+        let place = Place::try_from(place)?;
+        Ok(self.table.lines.line_at(place).map(|checked| checked.line))
+    }
+
+    /// A range by the patterns of its low and its high end.
+    fn patterns(&self, range: Range) -> (u32, u32)
+        ensures { result ≡ ((C.meaning self.now.catalogue).writes range.low, (C.meaning self.now.catalogue).writes range.high) }
+    {
+        (self.catalogue.pattern(range.low), self.catalogue.pattern(range.high))
     }
 
     /// The ranks of two patterns.
@@ -131,7 +163,7 @@ impl<C: Catalogue> Sheet<C> {
     /// Some y in the shown range of a line's y that makes an allowed triple with the patterns x and z, or none.
     pub fn partner(&self, place: u32, x: u32, z: u32) -> Result<Option<u32>, Refusal>
         ensures answer { numbered result ≡ partner_asked (C.meaning self.now.catalogue) place x z self.now.table }
-        ensures choice { (l : Line) (p : ℤ × ℤ) → Partnered (C.meaning self.now.catalogue) l p self.now.table }
+        ensures words { (h : List Call) (l : Line) (a c : ℤ) → self.now.table ≡ after (C.meaning self.now.catalogue) h → line_of h place ≡ Some l → (C.meaning self.now.catalogue).reads x ≡ Some a → (C.meaning self.now.catalogue).reads z ≡ Some c → self.now.table.state ≢ State.Void → IsPartnerAnswer (C.meaning self.now.catalogue) l a c self.now.table result }
     {
         let place = self.place_of_line(place)?;
         let line = self.table.lines.line_at(place).ok_or(Refusal::NoLineThere)?;
@@ -144,6 +176,8 @@ impl<C: Catalogue> Sheet<C> {
     pub fn settle(&mut self, budget: u32) -> Result<(Outcome, u32), Refusal>
         ensures answer { settle_answer result ≡ settle_asked (C.meaning self.old.catalogue) budget self.old.table }
         ensures table { self.new.table ≡ settle_table (C.meaning self.old.catalogue) budget self.old.table }
+        ensures call { self.new.table ≡ called (C.meaning self.old.catalogue) (settle budget) self.old.table }
+        ensures words { IfOk result (λ done. IsSettle (C.meaning self.old.catalogue) budget done.1 self.old.table self.new.table) }
         ensures catalogue { self.new.catalogue ≡ self.old.catalogue }
     {
         if is_bad_budget(budget) {
@@ -177,9 +211,7 @@ impl<C: Catalogue> Look<'_, C> {
     pub fn patterns(&self, register: u32) -> Result<(u32, u32), Refusal>
         ensures { numbered result ≡ in_patterns (C.meaning self.now.sheet.now.catalogue) (shown_range register self.now.sheet.now.table) }
     {
-        let range = self.range(register)?;
-        let catalogue = &self.sheet.catalogue;
-        Ok((catalogue.pattern(range.low), catalogue.pattern(range.high)))
+        Ok(self.sheet.patterns(self.range(register)?))
     }
 
     /// Whether the sheet is settled.

@@ -55,3 +55,12 @@ impl From<Row> for DrawnLine {
         }
     }
 }
+
+/// A line as it would be drawn, so that a line that is read back from one sheet can be entered at another.
+impl From<Line> for DrawnLine {
+    ghost from_gives = { λ l d. d ≡ drawn_of (row_of l) };
+
+    fn from(line: Line) -> DrawnLine {
+        DrawnLine::from(Row::from(line))
+    }
+}

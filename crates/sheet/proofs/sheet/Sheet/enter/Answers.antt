@@ -1,6 +1,10 @@
-use Rattle.std.proofs.Common.{rules, ◌≡◌}
+use Rattle.std.proofs.Common.{rules, ◌≡◌, ◌<◌, ltb, sym, ap, ◌∙◌, subst}
+use Rattle.std.proofs.lemmas.Bool.{ltb-true, not-false}
+use Rattle.sheet.specs.Rules.{table_after_enter}
+use Rattle.sheet.specs.Words.{IsEnter}
+use Rattle.sheet.proofs.Wordings.{enter_words}
 use Rattle.sheet.specs.Histories.{called, enter}
-use Rattle.sheet.proofs.Reaching.{reached_by}
+use Rattle.sheet.proofs.Reaching.{kept_if_reached, reached_by}
 use Rattle.sheet.proofs.sheet.Sheet.enter.Goals as goal
 
 pub invariant_of-self : goal.invariant_of-self
@@ -9,4 +13,14 @@ invariant_of-self g c =
     let k = enter c.args.place c.args.line.line in
     let m = g.C.Catalogue.meaning s.catalogue in
     let e : c.enter.new.self ≡ called m k s.table = search rules in
-    record { reached = reached_by k m s.table c.enter.new.self s.reached e }
+    record { reached = reached_by m s.table k c.enter.new.self s.reached e }
+
+pub returns-clause-words : goal.returns-clause-words
+returns-clause-words g c =
+    let s = c.args.self.now in
+    let m = g.C.Catalogue.meaning s.catalogue in
+    let n = c.args.place in
+    let l = c.args.line.line in
+    let named = c.in-Ok.ensures in
+    let lt : n < 64 = ltb-true n 64 (not-false (ltb n 64) named.1) in
+    subst (IsEnter n l s.table) (sym (c.enter.ensures ∙ ap (λ k. table_after_enter m k l s.table) named.0)) (enter_words m n l s.table lt)

@@ -1,6 +1,9 @@
-use Rattle.std.proofs.Common.{rules, ◌≡◌}
+use Rattle.std.proofs.Common.{rules, ◌≡◌, sym, subst}
+use Rattle.sheet.specs.Rules.{table_after_strike}
+use Rattle.sheet.specs.Words.{IsStrike}
+use Rattle.sheet.proofs.Wordings.{strike_words}
 use Rattle.sheet.specs.Histories.{called, strike}
-use Rattle.sheet.proofs.Reaching.{reached_by}
+use Rattle.sheet.proofs.Reaching.{kept_if_reached, reached_by}
 use Rattle.sheet.proofs.sheet.Sheet.strike.Goals as goal
 
 pub invariant_of-self : goal.invariant_of-self
@@ -9,4 +12,12 @@ invariant_of-self g c =
     let k = strike c.args.place in
     let m = g.C.Catalogue.meaning s.catalogue in
     let e : c.strike.new.self ≡ called m k s.table = search rules in
-    record { reached = reached_by k m s.table c.strike.new.self s.reached e }
+    record { reached = reached_by m s.table k c.strike.new.self s.reached e }
+
+pub returns-clause-words : goal.returns-clause-words
+returns-clause-words g c =
+    let s = c.args.self.now in
+    let m = g.C.Catalogue.meaning s.catalogue in
+    let n = c.args.place in
+    let e : c.strike.new.self ≡ table_after_strike m n s.table = search rules in
+    subst (IsStrike n s.table) (sym e) (strike_words m n s.table)
