@@ -12,10 +12,14 @@ use Rattle.catalogue.specs.Ranges.{Proper, Within, WithinO, empty, meet, smaller
 use Rattle.sheet.specs.declared.lines.Line.{Line}
 use Rattle.sheet.specs.declared.table.Table.{Table}
 use Rattle.promise.specs.Promise.{Unchanged}
-use Rattle.sheet.specs.Rules.{range_at, changed, cut_table, cut, then, given, absorbed, narrowed_by}
-use Rattle.promise.proofs.Cutting.{changed_at}
-use Rattle.promise.proofs.Remade.{Passes}
-use Rattle.promise.proofs.Unmoving.{unchanged, unmoved, within_self, within_then, meet_left, meet_right, some_left, covers}
+use Rattle.sheet.specs.Rules.{no_range, range_at, table_with_range, cut_table, cut, then, ranges_of, cuts, narrowed_table}
+use Rattle.sheet.proofs.Meets.{covers, meet_left, meet_right, some_left, within_self, within_then}
+use Rattle.sheet.proofs.Wordings.{Registers}
+use Rattle.promise.proofs.Setting.{at_each}
+use Rattle.promise.proofs.Unmoving.{unchanged, unmoved}
+
+changed_at : (r : ℕ) (new : Range) (t : Table) → r < length t.ranges → (P : ℕ → Range → Type 0) → P r new → ((q : ℕ) → (q ≡ r → ⊥) → P q (range_at t q)) → (q : ℕ) → P q (range_at (table_with_range r new t) q)
+changed_at r new t lt P here off = at_each t.ranges r new no_range lt P here off
 
 -- ---- a range within the cut stays as it is
 no_smaller : (a b : Range) → Within a b → smaller (meet a b) a ≡ false
@@ -25,9 +29,9 @@ cut_alone : (r : ℕ) (b : Range) (t : Table) → Proper (range_at t r) → With
 cut_alone r b t p h =
     let a = range_at t r in
     cond-false (empty (meet a b)) None (Some (cut_table r b t)) (some_left a a b p (within_self a) h)
-    ∙ ap Some (cond-false (smaller (meet a b) a) (changed r (meet a b) t) t (no_smaller a b h))
+    ∙ ap Some (cond-false (smaller (meet a b) a) (table_with_range r (meet a b) t) t (no_smaller a b h))
 
-absorbed_alone : (l : Line) (o : Option Triple) (t : Table) → Passes l → ((r : ℕ) → r < 32 → Proper (range_at t r)) → WithinO (Some (given l t)) o → absorbed l o t ≡ Some t
+absorbed_alone : (l : Line) (o : Option Triple) (t : Table) → Registers l → ((r : ℕ) → r < 32 → Proper (range_at t r)) → WithinO (Some (ranges_of l t)) o → cuts l o t ≡ Some t
 absorbed_alone l None t p proper h = absurd h
 absorbed_alone l (Some s) t p proper h =
     ap (λ o. then (then o (cut l.y s.y)) (cut l.z s.z)) (cut_alone l.x s.x t (proper l.x p.x) h.0)
@@ -45,7 +49,7 @@ cut_table_left r b t lt wide =
     let a = range_at t r in
     let new = meet a b in
     let in_table : r < length t.ranges = omega arith in
-    cond_both (smaller new a) (changed r new t) t (Left r b t)
+    cond_both (smaller new a) (table_with_range r new t) t (Left r b t)
     (λ _. record {
       wide = length-set t.ranges r new ∙ wide;
       inside = changed_at r new t in_table (λ q v. Within v (range_at t q)) (meet_left a b) (λ q _. within_self (range_at t q));
@@ -72,7 +76,7 @@ record Absorbed (l : Line) (s : Triple) (t u : Table) : Type 0 where
   at_y : Within (range_at u l.y) s.y
   at_z : Within (range_at u l.z) s.z
 
-absorbed_all : (l : Line) (s : Triple) (t u : Table) → Passes l → length t.ranges ≡ 32 → absorbed l (Some s) t ≡ Some u → Absorbed l s t u
+absorbed_all : (l : Line) (s : Triple) (t u : Table) → Registers l → length t.ranges ≡ 32 → cuts l (Some s) t ≡ Some u → Absorbed l s t u
 absorbed_all l s t u p wide e =
     let c = then_some (then (cut l.x s.x t) (cut l.y s.y)) (cut l.z s.z) u e in
     let b = then_some (cut l.x s.x t) (cut l.y s.y) c.0 c.1 in
@@ -86,20 +90,16 @@ absorbed_all l s t u p wide e =
       at_z = z.here;
     }
 
-absorbed_left : (l : Line) (o : Option Triple) (t u : Table) → Passes l → length t.ranges ≡ 32 → absorbed l o t ≡ Some u → ((r : ℕ) → r < 32 → range_at u r ≡ range_at t r) → WithinO (Some (given l t)) o
+absorbed_left : (l : Line) (o : Option Triple) (t u : Table) → Registers l → length t.ranges ≡ 32 → cuts l o t ≡ Some u → ((r : ℕ) → r < 32 → range_at u r ≡ range_at t r) → WithinO (Some (ranges_of l t)) o
 absorbed_left l None t u p wide e same = absurd cc
 absorbed_left l (Some s) t u p wide e same =
     let a = absorbed_all l s t u p wide e in
     (subst (λ v. Within v s.x) (same l.x p.x) a.at_x, subst (λ v. Within v s.y) (same l.y p.y) a.at_y, subst (λ v. Within v s.z) (same l.z p.z) a.at_z)
 
-pub absorbed_inside : (l : Line) (o : Option Triple) (t u : Table) → Passes l → length t.ranges ≡ 32 → absorbed l o t ≡ Some u → (q : ℕ) → Within (range_at u q) (range_at t q)
-absorbed_inside l None t u p wide e q = absurd cc
-absorbed_inside l (Some s) t u p wide e q = (absorbed_all l s t u p wide e).inside q
-
 -- ---- both ways, for a line that passes the check
-module _ (m : Meaning) (laws : Laws m) (l : Line) (p : Passes l) (t : Table) where
-  pub unchanged_alone : ((r : ℕ) → r < 32 → Proper (range_at t r)) → Unchanged m l (range_at t) → narrowed_by m l t ≡ Some t
-  unchanged_alone proper u = absorbed_alone l (m.narrowed l.operation.kind l.operation.modes (given l t)) t p proper (unmoved m laws (range_at t) l p u)
+module _ (m : Meaning) (laws : Laws m) (l : Line) (p : Registers l) (t : Table) where
+  pub unchanged_alone : ((r : ℕ) → r < 32 → Proper (range_at t r)) → Unchanged m l (range_at t) → narrowed_table m l t ≡ Some t
+  unchanged_alone proper u = absorbed_alone l (m.narrowed l.operation.kind l.operation.modes (ranges_of l t)) t p proper (unmoved m laws (range_at t) l p u)
 
-  pub alone_unchanged : length t.ranges ≡ 32 → (u : Table) → narrowed_by m l t ≡ Some u → ((r : ℕ) → r < 32 → range_at u r ≡ range_at t r) → Unchanged m l (range_at t)
-  alone_unchanged wide u e same = unchanged m laws (range_at t) l (absorbed_left l (m.narrowed l.operation.kind l.operation.modes (given l t)) t u p wide e same)
+  pub alone_unchanged : length t.ranges ≡ 32 → (u : Table) → narrowed_table m l t ≡ Some u → ((r : ℕ) → r < 32 → range_at u r ≡ range_at t r) → Unchanged m l (range_at t)
+  alone_unchanged wide u e same = unchanged m laws (range_at t) l (absorbed_left l (m.narrowed l.operation.kind l.operation.modes (ranges_of l t)) t u p wide e same)

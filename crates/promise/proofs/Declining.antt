@@ -4,8 +4,8 @@ use Rattle.catalogue.specs.declared.types.Range.{Range}
 use Rattle.catalogue.specs.Meanings.{Meaning}
 use Rattle.sheet.specs.declared.table.Table.{Table}
 use Rattle.sheet.specs.Calls.{bad_budget, limit_asked, limit_table, no_line}
-use Rattle.sheet.specs.Boards.{line_at as at_place}
-use Rattle.sheet.specs.Rules.{entered, settled, struck}
+use Rattle.sheet.specs.Numbers.{no_place}
+use Rattle.sheet.specs.Rules.{table_after_enter, settling, stands, table_after_strike}
 use Rattle.promise.specs.Histories.{Call, limit, enter, strike, settle, look, partner, called, declines, is_refusal, passes_check}
 
 no_limits : (m : Meaning) (r : ℕ) (q : Result Range ℕ) (t : Table) → is_refusal q ≡ true → limit_table m r q t ≡ t
@@ -24,8 +24,8 @@ not_carried_out false n a t u e = absurd cc
 
 pub called_declined : (m : Meaning) (k : Call) (t : Table) → declines m k t ≡ true → called m k t ≡ t
 called_declined m (limit r low high) t e = no_limits m r (limit_asked m r low high) t e
-called_declined m (enter n l) t e = no_line_entered (passes_check l) (ltb 63 n) (is_some (at_place t.lines n)) t (entered m n l t) e
-called_declined m (strike n) t e = not_carried_out (no_line n t) 7 tt t (struck m n t) e
-called_declined m (settle b) t e = not_carried_out (bad_budget b) 8 _ t (settled m b t).table e
+called_declined m (enter n l) t e = no_line_entered (passes_check l) (no_place n) (stands t n) t (table_after_enter m n l t) e
+called_declined m (strike n) t e = not_carried_out (no_line n t) 7 tt t (table_after_strike m n t) e
+called_declined m (settle b) t e = not_carried_out (bad_budget b) 8 _ t (settling m b t).table e
 called_declined m (look r) t e = refl
 called_declined m (partner n x z) t e = refl

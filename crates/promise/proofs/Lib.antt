@@ -1,17 +1,12 @@
--- The promise, proved from the bottom up. A list with one item replaced (Setting); the index from registers to lines (Index, Indexes);
--- a line made again from its row (Remade); ranges that a line leaves as they are (Unmoving, Alone); the invariant (Sounds), kept by cuts,
--- steps and calls (Cutting, Resting, Stepping, Placing, Changing); and so after every history (Recounting, Declining, Promised); and what a step gains (Progress).
-pub mod Setting
-pub mod Remade
+-- Read from the bottom up. Passing: what the check answers passes it. Unmoving: which ranges a line leaves unchanged. Sounds: the
+-- invariant of every table. Keeping: the words of each call keep it, so Histories: it holds after every history. Setting, Alone: what a
+-- step leaves unchanged, by the rules. Declining: a declined call. Promised: the promise and its consequences. Comparing: two sheets.
+pub mod Passing
 pub mod Unmoving
 pub mod Sounds
-pub mod Cutting
-pub mod Declining
+pub mod Keeping
+pub mod Histories
+pub mod Setting
 pub mod Alone
-pub mod Resting
-pub mod Stepping
-pub mod Placing
-pub mod Changing
-pub mod Recounting
-pub mod Progress
+pub mod Declining
 pub mod Promised

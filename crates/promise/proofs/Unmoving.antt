@@ -1,46 +1,16 @@
--- Ranges within ranges; and that a line leaves ranges unchanged exactly if they lie within what it narrows them to.
-use Rattle.std.proofs.Common.{◌≡◌, ℕ, Bool, true, false, eqb, Some, None, Option, sym, refl, ap, ◌∙◌, subst, ⊎_elim, arith}
-use lib.Signed.{lt_z}
-use Rattle.std.specs.Int.{int_max, int_min}
-use Rattle.std.proofs.lemmas.Int.{ints, clamps}
-use Rattle.std.proofs.lemmas.Bool.{cases_Bool, or_parts, eqb-true, eq-eqb}
+-- That a line leaves ranges unchanged exactly if they lie within what it narrows them to.
+use Rattle.std.proofs.Common.{◌≡◌, ℕ, Bool, true, false, eqb, Some, None, Option, sym, refl, ap, ◌∙◌, subst, inl, inr, ⊎_elim}
+use Rattle.std.proofs.lemmas.Bool.{cases_Bool, eqb-true, eq-eqb, ne_eqb}
 use Rattle.catalogue.specs.declared.types.Range.{Range}
 use Rattle.catalogue.specs.declared.types.Triple.{Triple}
 use Rattle.catalogue.specs.Meanings.{Meaning, Laws}
-use Rattle.catalogue.specs.Ranges.{Proper, Within, Within3, WithinO, empty, meet, smaller}
+use Rattle.catalogue.specs.Ranges.{Within, Within3, WithinO, meet}
 use Rattle.catalogue.proofs.Laws.{range_same}
 use Rattle.sheet.specs.declared.lines.Line.{Line}
-use Rattle.promise.specs.Promise.{Ranges, given_to, common_if, gets, Unchanged}
-use Rattle.promise.proofs.Remade.{Passes}
-
--- ---- ranges within ranges
-pub within_self : (a : Range) → Within a a
-within_self a = (omega (arith, ints), omega (arith, ints))
-
-pub within_then : (a b c : Range) → Within a b → Within b c → Within a c
-within_then a b c h k = (omega (arith, ints), omega (arith, ints))
-
-pub within_meet : (s a b : Range) → Within s a → Within s b → Within s (meet a b)
-within_meet s a b h k = (omega (arith, ints, clamps), omega (arith, ints, clamps))
-
-pub meet_left : (a b : Range) → Within (meet a b) a
-meet_left a b = (omega (arith, ints, clamps), omega (arith, ints, clamps))
-
-pub meet_right : (a b : Range) → Within (meet a b) b
-meet_right a b = (omega (arith, ints, clamps), omega (arith, ints, clamps))
-
-pub some_left : (s a b : Range) → Proper s → Within s a → Within s b → empty (meet a b) ≡ false
-some_left s a b p h k = let w = within_meet s a b h k in grind (arith, ints)
-
-pub proper_from : (a : Range) → empty a ≡ false → Proper a
-proper_from a h = grind (arith, ints)
-
--- a cut that makes a range no smaller takes nothing from it
-pub covers : (a b : Range) → smaller (meet a b) a ≡ false → Within a b
-covers a b h =
-    let low : lt_z a.low (int_max a.low b.low) ≡ false = (or_parts (lt_z a.low (int_max a.low b.low)) (lt_z (int_min a.high b.high) a.high) h).0 in
-    let high : lt_z (int_min a.high b.high) a.high ≡ false = (or_parts (lt_z a.low (int_max a.low b.low)) (lt_z (int_min a.high b.high) a.high) h).1 in
-    (grind (arith, ints), grind (arith, ints))
+use Rattle.sheet.specs.Words.{Names, common_if, gets}
+use Rattle.sheet.proofs.Meets.{meet_left, meet_right, within_meet, within_self, within_then}
+use Rattle.sheet.proofs.Wordings.{Registers}
+use Rattle.promise.specs.Promise.{Ranges, Unchanged, given_to}
 
 pub within_some : (a : Triple) (b c : Option Triple) → WithinO (Some a) b → WithinO b c → WithinO (Some a) c
 within_some a None c h k = absurd h
@@ -77,6 +47,34 @@ common_under false a c d h = h
 common_own : (r : ℕ) (a c : Range) → Within (common_if (eqb r r) a c) a
 common_own r a c = subst (λ b. Within (common_if b a c) a) (sym (eq-eqb r r refl)) (meet_left a c)
 
+-- what a register gets lies within its range, and within its own results; and what lies within all of them lies within that
+pub gets_within : (l : Line) (s : Triple) (q : ℕ) (old : Range) → Within (gets l s q old) old
+gets_within l s q old = common_under (eqb l.z q) s.z _ old (common_under (eqb l.y q) s.y _ old (common_under (eqb l.x q) s.x old old (within_self old)))
+
+pub within_gets : (l : Line) (s : Triple) (q : ℕ) (old a : Range) → Within a old → (l.x ≡ q → Within a s.x) → (l.y ≡ q → Within a s.y) → (l.z ≡ q → Within a s.z) → Within a (gets l s q old)
+within_gets l s q old a h x y z = into (eqb l.z q) s.z _ (λ e. z (eqb-true l.z q e)) (into (eqb l.y q) s.y _ (λ e. y (eqb-true l.y q e)) (into (eqb l.x q) s.x old (λ e. x (eqb-true l.x q e)) h))
+  where
+    into : (b : Bool) (r c : Range) → (b ≡ true → Within a r) → Within a c → Within a (common_if b r c)
+    into true r c f g = within_meet a r c (f refl) g
+    into false r c f g = g
+
+module _ (l : Line) (s : Triple) (old : Range) where
+  pub gets_x : Within (gets l s l.x old) s.x
+  gets_x = common_under (eqb l.z l.x) s.z _ s.x (common_under (eqb l.y l.x) s.y _ s.x (common_own l.x s.x old))
+
+  pub gets_y : Within (gets l s l.y old) s.y
+  gets_y = common_under (eqb l.z l.y) s.z _ s.y (common_own l.y s.y _)
+
+  pub gets_z : Within (gets l s l.z old) s.z
+  gets_z = common_own l.z s.z _
+
+-- a register that the line does not name keeps its range
+pub gets_other : (l : Line) (s : Triple) (q : ℕ) (old : Range) → (Names l q → ⊥) → gets l s q old ≡ old
+gets_other l s q old apart =
+    ap (λ b. common_if b s.z (common_if (eqb l.y q) s.y (common_if (eqb l.x q) s.x old))) (ne_eqb l.z q (λ e. apart (inr (inr e))))
+    ∙ ap (λ b. common_if b s.y (common_if (eqb l.x q) s.x old)) (ne_eqb l.y q (λ e. apart (inr (inl e))))
+    ∙ ap (λ b. common_if b s.x old) (ne_eqb l.x q (λ e. apart (inl e)))
+
 -- both ways
 module _ (m : Meaning) (laws : Laws m) (σ : Ranges) (l : Line) where
   pub unchanged : Unmoved m σ l → Unchanged m l σ
@@ -94,11 +92,11 @@ module _ (m : Meaning) (laws : Laws m) (σ : Ranges) (l : Line) where
             ap (λ v. common_if (eqb l.z q) s.z (common_if (eqb l.y q) s.y v)) ex ∙ ap (common_if (eqb l.z q) s.z) ey ∙ ez;
       }
 
-  pub unmoved : Passes l → Unchanged m l σ → Unmoved m σ l
+  pub unmoved : Registers l → Unchanged m l σ → Unmoved m σ l
   unmoved p u =
       let s = u.results in
-      let x : Within (gets l s l.x (σ l.x)) s.x = common_under (eqb l.z l.x) s.z _ s.x (common_under (eqb l.y l.x) s.y _ s.x (common_own l.x s.x (σ l.x))) in
-      let y : Within (gets l s l.y (σ l.y)) s.y = common_under (eqb l.z l.y) s.z _ s.y (common_own l.y s.y _) in
-      let z : Within (gets l s l.z (σ l.z)) s.z = common_own l.z s.z _ in
+      let x = gets_x l s (σ l.x) in
+      let y = gets_y l s (σ l.y) in
+      let z = gets_z l s (σ l.z) in
       let all : Within3 (given_to l σ) s = (subst (λ v. Within v s.x) (u.same l.x p.x) x, subst (λ v. Within v s.y) (u.same l.y p.y) y, subst (λ v. Within v s.z) (u.same l.z p.z) z) in
       subst (WithinO (Some (given_to l σ))) (sym u.narrowed) all

@@ -4,7 +4,7 @@ use Rattle.catalogue.specs.declared.types.Refusal.{Refusal}
 use Rattle.catalogue.specs.Meanings.{Meaning}
 use Rattle.catalogue.specs.Refusals.{refusal_number}
 use Rattle.sheet.specs.declared.table.Table.{Table}
-use Rattle.sheet.specs.Calls.{in_patterns, is_settled, is_void, shown}
+use Rattle.sheet.specs.Calls.{in_patterns, is_settled, is_void, shown_range}
 use Rattle.promise.specs.declared.Shown.{Shown}
 
 -- low and high pattern, and whether settled
@@ -17,4 +17,4 @@ and_settled b (Ok p) = Ok (p.0, p.1, b)
 and_settled b (Err e) = Err e
 
 abbrev pub show_asked : Meaning → ℕ → Table → Result (ℕ × ℕ × Bool) ℕ
-show_asked m r t = cond (is_void t.state) (Err 9) (and_settled (is_settled t.state) (in_patterns m (shown r t)))
+show_asked m r t = cond (is_void t.state) (Err 9) (and_settled (is_settled t.state) (in_patterns m (shown_range r t)))

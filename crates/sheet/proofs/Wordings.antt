@@ -241,12 +241,12 @@ module _ (l : Line) (s : Triple) (t : Table) where
 
 -- ---- a step
 -- a line that passes the check names registers that there are
-record Registers (l : Line) : Type 0 where
-  x : l.x < 32
-  y : l.y < 32
-  z : l.z < 32
+pub record Registers (l : Line) : Type 0 where
+  pub x : l.x < 32
+  pub y : l.y < 32
+  pub z : l.z < 32
 
-registers : (l : Line) → passes_check l ≡ true → Registers l
+pub registers : (l : Line) → passes_check l ≡ true → Registers l
 registers l p =
     let r = (and_parts _ (ltb l.x 32 && (ltb l.y 32 && ltb l.z 32)) p).1 in
     let x = and_parts (ltb l.x 32) (ltb l.y 32 && ltb l.z 32) r in
@@ -349,7 +349,7 @@ module _ (m : Meaning) where
   open_from Open e = refl
   open_from Void e = absurd cc
 
-  reaction_words : (t : Table) → Kept t → at_rest t.state ≡ false → IsStep m t (reaction m t.state Step t)
+  pub reaction_words : (t : Table) → Kept t → at_rest t.state ≡ false → IsStep m t (reaction m t.state Step t)
   reaction_words t kept e = let o = open_from t.state e in subst (λ s. IsStep m t (reaction m s Step t)) (sym o) (step_words m t kept o)
 
   pub settle_words : (b : ℕ) (t : Table) → Kept t → IsSettle m b (settling m b t).steps t (settling m b t).table
