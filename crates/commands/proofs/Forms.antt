@@ -6,13 +6,11 @@ use Rattle.std.proofs.lemmas.Bool.Decides.{nat_tests}
 use Rattle.std.proofs.lemmas.Option.{none-some}
 use Rattle.std.specs.Str.Parse.{AllDigits}
 use Rattle.std.specs.Char.{digit_value}
-use Rattle.catalogue.specs.declared.types.Kind.{Kind}
-use Rattle.catalogue.specs.declared.types.Kind.TheVariants.{Sum, Difference, Peak}
 use Rattle.words.proofs.Decimals.{number_writes, writes_number}
 use Rattle.words.proofs.Patterns.{pattern_writes, writes_pattern}
 use Rattle.words.specs.Numbers.{number_of, pattern_of, written, glyph_of}
 use Rattle.commands.specs.Commands.{then, word, kind_of, kind_by_letter}
-use Rattle.commands.specs.Lines.{kind_letter, Number, Pattern}
+use Rattle.commands.specs.Lines.{kind_letter, Number, Pattern, Kind}
 use Rattle.commands.specs.declared.Command.{Command}
 use Rattle.commands.proofs.Spaces.{Clear}
 
@@ -43,28 +41,22 @@ pattern_form = record {
   clear = λ n h. (glyph_clear _, (glyph_clear _, (glyph_clear _, (glyph_clear _, (glyph_clear _, (glyph_clear _, (glyph_clear _, (glyph_clear _, tt))))))));
 }
 
-kind_letters : (b : ℕ) (k : Kind) → kind_by_letter b ≡ Some k → kind_letter k ≡ b
-kind_letters b Sum e = grind (arith, nat_tests)
-kind_letters b Difference e = grind (arith, nat_tests)
-kind_letters b Peak e = grind (arith, nat_tests)
+kind_letters : (b k : ℕ) → kind_by_letter b ≡ Some k → Kind k × (kind_letter k ≡ b)
+kind_letters b k e = (grind (arith, nat_tests), grind (arith, nat_tests))
 
-kind_writes : (w : List ℕ) (k : Kind) → kind_of w ≡ Some k → Unit {0} × (kind_letter k ∷ [] ≡ w)
+kind_writes : (w : List ℕ) (k : ℕ) → kind_of w ≡ Some k → Kind k × (kind_letter k ∷ [] ≡ w)
 kind_writes [] k e = absurd (none-some k e)
-kind_writes (b ∷ []) k e = (tt, ap (λ l. l ∷ []) (kind_letters b k e))
+kind_writes (b ∷ []) k e = let l = kind_letters b k e in (l.0, ap (λ b. b ∷ []) l.1)
 kind_writes (b ∷ c ∷ bs) k e = absurd (none-some k e)
 
-kind_reads : (k : Kind) → kind_of (kind_letter k ∷ []) ≡ Some k
-kind_reads Sum = refl
-kind_reads Difference = refl
-kind_reads Peak = refl
+kind_reads : (k : ℕ) → Kind k → kind_of (kind_letter k ∷ []) ≡ Some k
+kind_reads k h = grind (arith, nat_tests)
 
-kind_clear : (k : Kind) → Clear (kind_letter k ∷ [])
-kind_clear Sum = (λ e. omega arith, tt)
-kind_clear Difference = (λ e. omega arith, tt)
-kind_clear Peak = (λ e. omega arith, tt)
+kind_clear : (k : ℕ) → Clear (kind_letter k ∷ [])
+kind_clear k = (λ e. grind (arith, nat_tests), tt)
 
-pub kind_form : Form Kind kind_of (λ k. kind_letter k ∷ []) (λ _. Unit {0})
-kind_form = record { to = kind_writes; from = λ k _. kind_reads k; clear = λ k _. kind_clear k }
+pub kind_form : Form ℕ kind_of (λ k. kind_letter k ∷ []) Kind
+kind_form = record { to = kind_writes; from = kind_reads; clear = λ k _. kind_clear k }
 
 -- reading goes on from what a word was read as
 abbrev going : {A : Type 0} → Option A → List (List ℕ) → (A → List (List ℕ) → Option Command) → Option Command

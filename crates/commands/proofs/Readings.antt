@@ -38,7 +38,7 @@ enter_written ws c e =
     taking number_form m-ws _ c m-more (λ x x-ws x_Fits x_is x-more.
     taking number_form x-ws _ c x-more (λ y y-ws y-fits y_is y-more.
     taking number_form y-ws _ c y-more (λ z z-ws z-fits z_is z-more.
-    ended 69 ws z-ws (Enter n k m x y z) c z-more (λ q. record { sized = (n-fits, m-fits, x_Fits, y-fits, z-fits); letter = refl; words = join n-is (join k-is (join m-is (join x_is (join y_is (join z_is q))))) })))))))
+    ended 69 ws z-ws (Enter n record { kind = k; modes = m; x = x; y = y; z = z }) c z-more (λ q. record { sized = (n-fits, k-fits, m-fits, x_Fits, y-fits, z-fits); letter = refl; words = join n-is (join k-is (join m-is (join x_is (join y_is (join z_is q))))) })))))))
 
 settle_written : (ws : List (List ℕ)) (c : Command) → settle_of ws ≡ Some c → Written 83 ws c
 settle_written ws c e =
@@ -101,13 +101,13 @@ command_writes (b ∷ s ∷ bs) c e =
 letter_reads : (c : Command) → Sized c → by_letter (letter_of c) (words_of c) ≡ Some c
 letter_reads (Limit r l h) s =
     step_back number_form r _ _ s.0 ∙ step_back pattern_form l _ _ s.1 ∙ step_back pattern_form h _ _ s.2
-letter_reads (Enter n k m x y z) s =
+letter_reads (Enter n l) s =
     step_back number_form n _ _ s.0
-    ∙ step_back kind_form k _ _ tt
-    ∙ step_back number_form m _ _ s.1
-    ∙ step_back number_form x _ _ s.2
-    ∙ step_back number_form y _ _ s.3
-    ∙ step_back number_form z _ _ s.4
+    ∙ step_back kind_form l.kind _ _ s.1
+    ∙ step_back number_form l.modes _ _ s.2
+    ∙ step_back number_form l.x _ _ s.3
+    ∙ step_back number_form l.y _ _ s.4
+    ∙ step_back number_form l.z _ _ s.5
 letter_reads (Settle b) s = step_back number_form b _ _ s
 letter_reads (Look r) s = step_back number_form r _ _ s
 letter_reads (Strike n) s = step_back number_form n _ _ s
@@ -119,11 +119,11 @@ writes_command : (c : Command) → Sized c → command_of (line_of c) ≡ Some c
 writes_command (Limit r l h) s =
     ap (by_letter 76) (words_back _ _ (number_form.clear r s.0) (pattern_form.clear l s.1, (pattern_form.clear h s.2, tt)))
     ∙ letter_reads (Limit r l h) s
-writes_command (Enter n k m x y z) s =
+writes_command (Enter n l) s =
     ap (by_letter 69)
     (words_back _ _ (number_form.clear n s.0)
-    (kind_form.clear k tt, (number_form.clear m s.1, (number_form.clear x s.2, (number_form.clear y s.3, (number_form.clear z s.4, tt))))))
-    ∙ letter_reads (Enter n k m x y z) s
+    (kind_form.clear l.kind s.1, (number_form.clear l.modes s.2, (number_form.clear l.x s.3, (number_form.clear l.y s.4, (number_form.clear l.z s.5, tt))))))
+    ∙ letter_reads (Enter n l) s
 writes_command (Settle b) s = ap (by_letter 83) (words_back _ [] (number_form.clear b s) tt) ∙ letter_reads (Settle b) s
 writes_command (Look r) s = ap (by_letter 82) (words_back _ [] (number_form.clear r s) tt) ∙ letter_reads (Look r) s
 writes_command (Strike n) s = ap (by_letter 75) (words_back _ [] (number_form.clear n s) tt) ∙ letter_reads (Strike n) s

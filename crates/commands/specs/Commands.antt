@@ -1,7 +1,5 @@
 -- The command that a line stands for: a letter, a space, and words one space apart, each of the form that the letter asks for.
 use Rattle.std.specs.Prelude.{ℕ, cond, List, [], ◌∷◌, Some, None, Option, ◌==◌}
-use Rattle.catalogue.specs.declared.types.Kind.{Kind}
-use Rattle.catalogue.specs.declared.types.Kind.TheVariants.{Sum, Difference, Peak}
 use Rattle.words.specs.Numbers.{number_of, pattern_of}
 use Rattle.words.specs.Words.{words}
 use Rattle.commands.specs.declared.Command.{Command}
@@ -30,12 +28,12 @@ none_left (w ∷ ws) = None
 abbrev pub last : List (List ℕ) → Command → Option Command
 last ws c = then (none_left ws) (λ _. Some c)
 
--- the letters of the kinds: s, d and p
-abbrev pub kind_by_letter : ℕ → Option Kind
-kind_by_letter b = cond (b == 115) (Some Sum) (cond (b == 100) (Some Difference) (cond (b == 112) (Some Peak) None))
+-- the letters of the kinds 0, 1 and 2, a sum, a difference and a peak: s, d and p
+abbrev pub kind_by_letter : ℕ → Option ℕ
+kind_by_letter b = cond (b == 115) (Some 0) (cond (b == 100) (Some 1) (cond (b == 112) (Some 2) None))
 
 -- a word of one such letter
-abbrev pub kind_of : List ℕ → Option Kind
+abbrev pub kind_of : List ℕ → Option ℕ
 kind_of [] = None
 kind_of (b ∷ []) = kind_by_letter b
 kind_of (b ∷ c ∷ bs) = None
@@ -56,7 +54,7 @@ enter_of ws =
     word number_of ws (λ x ws.
     word number_of ws (λ y ws.
     word number_of ws (λ z ws.
-    last ws (Enter place kind modes x y z)))))))
+    last ws (Enter place record { kind = kind; modes = modes; x = x; y = y; z = z })))))))
 
 abbrev pub settle_of : List (List ℕ) → Option Command
 settle_of ws = word number_of ws (λ budget ws. last ws (Settle budget))

@@ -6,39 +6,18 @@ ghost use Rattle.commands.specs.Commands.{by_letter, command_of, enter_of, kind_
 ghost use Rattle.commands.specs.Lines.{Reads};
 ghost use Rattle.std.specs.Prelude.{◌≡◌};
 
-use catalogue::types::Kind;
+use sheet::lines::DrawnLine;
 use words::{Words, number, pattern};
 
 /// A command, with its words as they were read: no number in it is known to fit its use.
-#[derive(Clone, Copy, Debug, PartialEq, Eq)]
+#[derive(Clone, Debug, PartialEq, Eq, Drop)]
 pub enum Command {
-    Limit {
-        register: u32,
-        low: u32,
-        high: u32,
-    },
-    Enter {
-        place: u32,
-        kind: Kind,
-        modes: u32,
-        x: u32,
-        y: u32,
-        z: u32,
-    },
-    Settle {
-        budget: u32,
-    },
-    Look {
-        register: u32,
-    },
-    Strike {
-        place: u32,
-    },
-    Partner {
-        place: u32,
-        x: u32,
-        z: u32,
-    },
+    Limit { register: u32, low: u32, high: u32 },
+    Enter { place: u32, line: DrawnLine },
+    Settle { budget: u32 },
+    Look { register: u32 },
+    Strike { place: u32 },
+    Partner { place: u32, x: u32, z: u32 },
 }
 
 /// The command that a line stands for, if it stands for one.
@@ -94,14 +73,14 @@ fn enter(mut words: Words<'_>) -> Option<Command>
     let y = number(words.next()?)?;
     let z = number(words.next()?)?;
     no_more(words)?;
-    Some(Command::Enter {
-        place,
+    let line = DrawnLine {
         kind,
         modes,
         x,
         y,
         z,
-    })
+    };
+    Some(Command::Enter { place, line })
 }
 
 /// `S budget`, without the letter.
@@ -149,8 +128,8 @@ fn no_more(mut words: Words<'_>) -> Option<()>
     words.next().is_none().then_some(())
 }
 
-/// The kind that a word of one letter stands for.
-fn kind(word: &[u8]) -> Option<Kind>
+/// The number of the kind that a word of one letter stands for.
+fn kind(word: &[u8]) -> Option<u32>
     ensures { result ≡ kind_of word.now }
 {
     match word {
@@ -159,14 +138,14 @@ fn kind(word: &[u8]) -> Option<Kind>
     }
 }
 
-/// The kind that a letter stands for.
-fn kind_lettered(letter: char) -> Option<Kind>
+/// The number of the kind that a letter stands for: of a sum, a difference or a peak.
+fn kind_lettered(letter: char) -> Option<u32>
     ensures { result ≡ kind_by_letter letter }
 {
     match letter {
-        's' => Some(Kind::Sum),
-        'd' => Some(Kind::Difference),
-        'p' => Some(Kind::Peak),
+        's' => Some(0),
+        'd' => Some(1),
+        'p' => Some(2),
         _ => None,
     }
 }

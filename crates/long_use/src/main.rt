@@ -73,24 +73,7 @@ impl<C: Catalogue> Used<C> {
                 low,
                 high,
             } => self.limit(register, Limits { low, high })?,
-            Command::Enter {
-                place,
-                kind,
-                modes,
-                x,
-                y,
-                z,
-            } => {
-                let kind = u32::from(u8::from(kind));
-                let line = DrawnLine {
-                    kind,
-                    modes,
-                    x,
-                    y,
-                    z,
-                };
-                self.tie(place, line)?;
-            }
+            Command::Enter { place, line } => self.tie(place, line)?,
             Command::Strike { place } => self.strike(place),
             Command::Settle { budget } => {
                 let _ = self.sheet.settle(budget);

@@ -15,7 +15,7 @@ use Rattle.answers.specs.Texts.{line_of}
 use Rattle.commands.specs.Commands.{command_of}
 use Rattle.sheet.specs.declared.table.Table.{Table}
 use Rattle.sheet.specs.Rules.{new_table}
-use Rattle.session.specs.Sessions.{Leads, Told, answers, calls_of, calls_of_all, drawn, entering, replied, table_after, table_after_all}
+use Rattle.session.specs.Sessions.{Leads, Told, answers, calls_of, calls_of_all, entering, replied, table_after, table_after_all}
 
 -- ---- histories: a command leaves what its call leaves
 
@@ -26,7 +26,7 @@ entered_after m n h (Ok l) p = sym (cond-true (passes_check l) (line_table m n l
 command_after : (m : Meaning) (c : Option Command) (h : List Call) → table_after m c (after m h) ≡ after m (calls_of c ++ h)
 command_after m None h = refl
 command_after m (Some (Limit r low high)) h = refl
-command_after m (Some (Enter n k s x y z)) h = entered_after m n h (checked (drawn k s x y z)) (checked_passed (drawn k s x y z))
+command_after m (Some (Enter n d)) h = entered_after m n h (checked d) (checked_passed d)
 command_after m (Some (Strike n)) h = refl
 command_after m (Some (Settle b)) h = refl
 command_after m (Some (Look r)) h = refl

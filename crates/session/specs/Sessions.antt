@@ -1,19 +1,16 @@
 -- A script and its answers: what each command is answered and leaves on the sheet, and what a whole script is answered.
 use Rattle.std.specs.Prelude.{◌≡◌, ℕ, Bool, cond, List, [], ◌∷◌, ◌++◌, length, drop, Some, None, Ok, Err, Option, Result, ◌==◌, nat_lt}
-use Rattle.catalogue.specs.declared.types.Kind.{Kind}
 use Rattle.catalogue.specs.declared.types.Refusal.{Refusal}
 use Rattle.catalogue.specs.Meanings.{Meaning}
 use Rattle.catalogue.specs.Refusals.{refusal_number}
 use Rattle.binary32.specs.Binary32.{binary}
 use Rattle.counters.specs.Counters.{counter}
-use Rattle.sheet.specs.declared.lines.DrawnLine.{DrawnLine}
 use Rattle.sheet.specs.declared.lines.Line.{Line}
 use Rattle.sheet.specs.declared.table.Table.{Table}
 use Rattle.sheet.specs.Calls.{done, drawn_asked, drawn_table, limit_asked, limit_table, strike_asked, strike_table, settle_asked, settle_table, partner_asked}
 use Rattle.promise.specs.Histories.{Call, limit, enter, strike, settle, look, partner, after}
 use Rattle.promise.specs.Promise.{Shows}
 use Rattle.promise.specs.Shown.{show_asked}
-use Rattle.catalogue.specs.Numbers.{kind_number}
 use Rattle.sheet.specs.Lines.{checked}
 use Rattle.sheet.specs.Rules.{new_table}
 use Rattle.words.specs.Lines.{lines}
@@ -30,10 +27,6 @@ use Rattle.answers.specs.Texts.{Reply, ok, refused, stepped, shown as shows, pai
 abbrev pub ok_or : Result (Unit {0}) ℕ → Reply
 ok_or (Ok x) = ok
 ok_or (Err e) = refused e
-
--- the line that an enter draws
-abbrev pub drawn : Kind → ℕ → ℕ → ℕ → ℕ → DrawnLine
-drawn k s x y z = record { kind = kind_number k; modes = s; x = x; y = y; z = z }
 
 abbrev pub stepped_or : Result (ℕ × ℕ) ℕ → Reply
 stepped_or (Ok p) = stepped p.0 p.1
@@ -56,7 +49,7 @@ reply_or (Err e) = refused (refusal_number e)
 abbrev pub replied : Meaning → Option Command → Table → Reply
 replied m None t = refused 10
 replied m (Some (Limit r low high)) t = ok_or (done (limit_asked m r low high))
-replied m (Some (Enter n k s x y z)) t = ok_or (drawn_asked n (checked (drawn k s x y z)) t)
+replied m (Some (Enter n d)) t = ok_or (drawn_asked n (checked d) t)
 replied m (Some (Strike n)) t = ok_or (strike_asked n t)
 replied m (Some (Settle b)) t = stepped_or (settle_asked m b t)
 replied m (Some (Look r)) t = shown_or (show_asked m r t)
@@ -66,7 +59,7 @@ replied m (Some (Partner n x z)) t = paired_or (partner_asked m n x z t)
 abbrev pub table_after : Meaning → Option Command → Table → Table
 table_after m None t = t
 table_after m (Some (Limit r low high)) t = limit_table m r (limit_asked m r low high) t
-table_after m (Some (Enter n k s x y z)) t = drawn_table m n (checked (drawn k s x y z)) t
+table_after m (Some (Enter n d)) t = drawn_table m n (checked d) t
 table_after m (Some (Strike n)) t = strike_table m n t
 table_after m (Some (Settle b)) t = settle_table m b t
 table_after m (Some (Look r)) t = t
@@ -80,7 +73,7 @@ entering n (Ok l) = enter n l ∷ []
 abbrev pub calls_of : Option Command → List Call
 calls_of None = []
 calls_of (Some (Limit r low high)) = limit r low high ∷ []
-calls_of (Some (Enter n k s x y z)) = entering n (checked (drawn k s x y z))
+calls_of (Some (Enter n d)) = entering n (checked d)
 calls_of (Some (Strike n)) = strike n ∷ []
 calls_of (Some (Settle b)) = settle b ∷ []
 calls_of (Some (Look r)) = look r ∷ []

@@ -20,7 +20,6 @@ use catalogue::types::Refusal;
 use commands::{Command, read};
 use counters::counter::Counter;
 use promise::show;
-use sheet::lines::DrawnLine;
 use sheet::sheet::Sheet;
 use std::alloc::{AllocError, Global};
 use std::io;
@@ -42,25 +41,7 @@ fn carry_out<C: Catalogue>(sheet: &mut Sheet<C>, command: Command) -> Result<Ans
             low,
             high,
         } => sheet.limit(register, low, high).map(|()| Answer::Done),
-        Command::Enter {
-            place,
-            kind,
-            modes,
-            x,
-            y,
-            z,
-        } => {
-            // Written out here and in `long_use`, since a command does not know the types of a sheet.
-            let kind = u32::from(u8::from(kind));
-            let drawn = DrawnLine {
-                kind,
-                modes,
-                x,
-                y,
-                z,
-            };
-            sheet.tie(place, drawn).map(|()| Answer::Done)
-        }
+        Command::Enter { place, line } => sheet.tie(place, line).map(|()| Answer::Done),
         Command::Strike { place } => sheet.strike(place).map(|()| Answer::Done),
         Command::Settle { budget } => sheet
             .settle(budget)
