@@ -1,5 +1,5 @@
 -- After every history the table is sound.
-use Rattle.std.proofs.Common.{◌≡◌, ℕ, zero, suc, ◌<◌, ◌≤◌, Bool, true, false, cond, not, ◌||◌, ltb, List, [], ◌∷◌, get_or, replicate, ℤ, ◌≤ℤ◌, is_some, Some, None, Ok, Err, Option, Result, sym, refl, ap, ◌∙◌, subst, ⊎_elim, arith}
+use Rattle.std.proofs.Common.{◌≡◌, ℕ, zero, suc, ◌<◌, false, ◌||◌, ltb, List, [], ◌∷◌, get_or, replicate, ℤ, ◌≤ℤ◌, Some, None, Ok, Err, Option, Result, sym, refl, ◌∙◌, subst, ⊎_elim, arith}
 use lib.Signed.{lt_z}
 use Rattle.std.proofs.lemmas.List.{get_or-replicate}
 use Rattle.std.proofs.lemmas.Int.{ints}
@@ -9,19 +9,17 @@ use Rattle.catalogue.specs.Meanings.{Meaning, Laws, all_readings}
 use Rattle.catalogue.specs.Ranges.{Within, Proper}
 use Rattle.sheet.specs.declared.lines.Line.{Line}
 use Rattle.sheet.specs.declared.table.Event.TheVariants.{Step}
-use Rattle.sheet.specs.declared.table.State.{State}
-use Rattle.sheet.specs.declared.table.State.TheVariants.{Settled, Open, Void}
 use Rattle.sheet.specs.declared.table.Table.{Table}
-use Rattle.sheet.specs.Calls.{bad_budget, limit_asked, limit_table, limits_read, line_table, no_line, strike_table}
+use Rattle.sheet.specs.Calls.{bad_budget, limit_asked, limit_table, limits_read, line_table, no_line}
 use Rattle.sheet.specs.Numbers.{no_place, no_register}
-use Rattle.sheet.specs.Rules.{after_steps, at_rest, limits_at, line_at, new_table, no_range, range_at, reaction, settling, stands, step, table_after_enter, table_after_limit, table_after_strike}
+use Rattle.sheet.specs.Rules.{after_steps, at_rest, limits_at, line_at, new_table, no_range, reaction, settling, stands, table_after_enter, table_after_limit, table_after_strike}
 use Rattle.sheet.proofs.Boards.{no_lines, none_from}
 use Rattle.sheet.proofs.Kept.{Kept, kept_after, kept_step}
 use Rattle.sheet.proofs.Meets.{within_self}
 use Rattle.sheet.proofs.Wordings.{enter_words, limit_words, reaction_words, strike_words}
 use Rattle.promise.specs.Histories.{Call, limit, enter, strike, settle, look, partner, passes_check, called, after}
 use Rattle.promise.proofs.Keeping.{enter_sound, limit_sound, step_sound, strike_sound}
-use Rattle.promise.proofs.Sounds.{Fixed, Live, Sound}
+use Rattle.promise.proofs.Sounds.{Sound}
 
 module _ (m : Meaning) (laws : Laws m) where
   -- ---- a new table

@@ -1,9 +1,9 @@
 -- The words of a step, a limit, an enter and a strike are enough: each keeps the invariant.
-use Rattle.std.proofs.Common.{◌≡◌, ◌≢◌, ℕ, zero, suc, ◌<◌, Bool, true, false, cond, ◌⊎◌, inl, inr, eqb, get_or, set, is_some, Some, None, Option, sym, refl, ap, ◌∙◌, subst, ⊎_elim, arith}
+use Rattle.std.proofs.Common.{◌≡◌, ◌≢◌, ℕ, ◌<◌, Bool, true, false, cond, inl, inr, get_or, is_some, Some, None, Option, sym, refl, ap, ◌∙◌, subst, ⊎_elim, arith}
 use lib.Signed.{le_z}
 use Rattle.std.proofs.lemmas.Int.{ints}
 use Rattle.std.proofs.lemmas.List.{get_or-set_same, get_or-set_other}
-use Rattle.std.proofs.lemmas.Bool.{both_ways, cases_Bool, cases_eq, eq-eqb, eqb-true, ne_eqb, and_parts}
+use Rattle.std.proofs.lemmas.Bool.{both_ways, cases_Bool, cases_eq, eq-eqb, ne_eqb, and_parts}
 use Rattle.catalogue.proofs.Rising.{le_true}
 use Rattle.catalogue.specs.declared.types.Range.{Range}
 use Rattle.catalogue.specs.declared.types.Triple.{Triple}
@@ -16,12 +16,12 @@ use Rattle.sheet.specs.declared.table.Table.{Table}
 use Rattle.sheet.specs.Boards.{names}
 use Rattle.sheet.specs.Calls.{is_void}
 use Rattle.sheet.specs.Places.{has, is_none}
-use Rattle.sheet.specs.Rules.{line_at, limits_at, no_range, range_at, ranges_of, stands}
-use Rattle.sheet.specs.Words.{AtLimits, DueExactly, IsCut, IsEnter, IsLimit, IsStep, IsStrike, IsVoid, Names, NamesChanged, Narrows, NothingLeft, SettledOrOpen, Takes, Tightens, common_if, gets}
+use Rattle.sheet.specs.Rules.{line_at, limits_at, no_range, range_at, ranges_of}
+use Rattle.sheet.specs.Words.{AtLimits, IsCut, IsEnter, IsLimit, IsStep, IsStrike, IsVoid, Names, NamesChanged, Narrows, NothingLeft, SettledOrOpen, Tightens, common_if, gets}
 use Rattle.sheet.proofs.Kept.{Kept, standing_place}
 use Rattle.sheet.proofs.Meets.{empty_from, meet_left, meet_right, proper_from, same_or_not, within_meet, within_self, within_then}
 use Rattle.sheet.proofs.Wordings.{Registers, is_named, named_is, registers}
-use Rattle.promise.specs.Promise.{Inside, Lines, Ranges, given_to}
+use Rattle.promise.specs.Promise.{Ranges, given_to}
 use Rattle.promise.proofs.Sounds.{Fixed, Live, Sound}
 use Rattle.promise.proofs.Unmoving.{Unmoved, gets_other, gets_within, gets_x, gets_y, gets_z, unmoved_same, within_gets, within_some}
 

@@ -10,3 +10,4 @@ pub mod Setting
 pub mod Alone
 pub mod Declining
 pub mod Promised
+pub mod Comparing

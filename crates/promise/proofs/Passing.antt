@@ -1,5 +1,5 @@
 -- What the check answers passes it.
-use Rattle.std.proofs.Common.{◌≡◌, ℕ, ◌<◌, true, cond, not, ◌&&◌, ◌||◌, eqb, ltb, Some, None, Ok, Err, Option, Result, arith}
+use Rattle.std.proofs.Common.{◌≡◌, ℕ, true, cond, not, ◌&&◌, ◌||◌, eqb, ltb, Some, None, Ok, Err, Option, Result, arith}
 use Rattle.std.proofs.lemmas.Bool.{and_from, or_parts, cond_both, eqb-false, ltb-false, lt-ltb, not-false}
 use Rattle.catalogue.specs.declared.types.Kind.{Kind}
 use Rattle.sheet.specs.declared.lines.DrawnLine.{DrawnLine}

@@ -1,7 +1,7 @@
 -- The promise, kept: a settled sheet shows the greatest consistent set within its limits, and sheets with the same limits and lines come to the same rest.
-use Rattle.std.proofs.Common.{◌≡◌, ◌≢◌, ℕ, ◌<◌, Bool, true, false, cond, not, ◌&&◌, ◌||◌, eqb, ltb, List, [], ◌∷◌, is_some, ℤ, Some, None, Option, sym, refl, ap, ◌∙◌, subst, inl, inr, ⊎_elim, arith}
+use Rattle.std.proofs.Common.{◌≡◌, ◌≢◌, ℕ, ◌<◌, Bool, true, false, not, ◌&&◌, ◌||◌, eqb, ltb, List, [], ◌∷◌, is_some, ℤ, Some, None, Option, sym, refl, ap, ◌∙◌, subst, inl, inr, ⊎_elim, arith}
 use Rattle.std.proofs.lemmas.Int.{ints}
-use Rattle.std.proofs.lemmas.Bool.{cases_eq, cases_Bool, both_ways, cond-true, cond-false, eq-eqb, ne_eqb, lt-ltb, and_from, and_left}
+use Rattle.std.proofs.lemmas.Bool.{cases_eq, both_ways, cond-true, cond-false, eq-eqb, ne_eqb, lt-ltb, and_from, and_left}
 use Rattle.catalogue.specs.declared.types.Triple.{Triple}
 use Rattle.catalogue.specs.Meanings.{Meaning, Laws, all_readings}
 use Rattle.catalogue.specs.Ranges.{Holds, HoldsO, Within, WithinO}
@@ -11,7 +11,7 @@ use Rattle.sheet.specs.declared.table.State.{State}
 use Rattle.sheet.specs.declared.table.State.TheVariants.{Settled, Open, Void}
 use Rattle.sheet.specs.declared.table.Table.{Table}
 use Rattle.sheet.specs.Boards.{line_in}
-use Rattle.sheet.specs.Calls.{is_void, no_line}
+use Rattle.sheet.specs.Calls.{is_void}
 use Rattle.sheet.specs.Numbers.{no_place}
 use Rattle.sheet.specs.Places.{has}
 use Rattle.sheet.specs.Rules.{at_rest, limits_at, line_at, range_at, stands, step}
@@ -20,7 +20,7 @@ use Rattle.sheet.proofs.Kept.{standing_place}
 use Rattle.sheet.proofs.Recounts.{limits_after, line_after}
 use Rattle.sheet.proofs.Wordings.{registers, step_words}
 use Rattle.promise.specs.Histories.{Call, strike, enter, after, limits_of, line_of, passes_check}
-use Rattle.promise.specs.Promise.{Alike, Assignment, Consequences, Consistent, ForEveryCatalogue, HasLine, Inside, Keeps, Lines, Promise, Ranges, Rests, SameLimits, SameLines, SameRest, Shows, ShowsAfter, given_to, settles}
+use Rattle.promise.specs.Promise.{Alike, Assignment, Consequences, Consistent, ForEveryCatalogue, HasLine, Inside, Keeps, Lines, Ranges, Rests, SameLimits, SameLines, SameRest, Shows, ShowsAfter, given_to, settles}
 use Rattle.promise.proofs.Alone.{unchanged_alone, alone_unchanged}
 use Rattle.promise.proofs.Declining.{called_declined}
 use Rattle.promise.proofs.Histories.{after_sound}

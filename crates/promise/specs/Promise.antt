@@ -1,5 +1,5 @@
 -- The promise about long use: what a sheet shows, by its limits and its lines, after every history of calls.
-use Rattle.std.specs.Prelude.{◌≡◌, ◌≢◌, ℕ, ◌<◌, Bool, true, false, ◌⊎◌, List, ◌∷◌, ◌++◌, length, map, ℤ, Some, None, Option}
+use Rattle.std.specs.Prelude.{◌≡◌, ◌≢◌, ℕ, ◌<◌, true, false, ◌⊎◌, List, ◌∷◌, ◌++◌, length, map, ℤ, Some, None, Option}
 use Rattle.catalogue.specs.declared.types.Range.{Range}
 use Rattle.catalogue.specs.declared.types.Triple.{Triple}
 use Rattle.catalogue.specs.Meanings.{Meaning, Laws, all_readings}

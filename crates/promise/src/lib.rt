@@ -2,7 +2,8 @@
 
 #![tactic(auto)]
 
-ghost use Rattle.std.specs.Prelude.{◌≡◌};
+ghost use Rattle.std.specs.Prelude.{◌≡◌, ◌↔◌, IsTrue};
+ghost use Rattle.promise.specs.Compared.{SameAtRest, ShowSame};
 ghost use Rattle.promise.specs.Promise.{Consequences, Promise, ShowsOfSome};
 ghost use Rattle.promise.specs.Shown.{show_answer, show_asked};
 
@@ -40,4 +41,24 @@ pub fn show<C: Catalogue>(sheet: &Sheet<C>, register: u32) -> Result<Shown, Refu
     ensures consequences { Consequences (C.meaning sheet.now.catalogue) }
 {
     look_at(sheet, register)
+}
+
+/// Whether two sheets show the same. A function of its own, as `look_at` is.
+fn show_same<C: Catalogue>(a: &Sheet<C>, b: &Sheet<C>) -> bool
+    ensures { IsTrue result ↔ ShowSame a.now.table b.now.table }
+{
+    match (a.look(), b.look()) {
+        (Ok(one), Ok(other)) => one.shows_same(&other),
+        (Err(_), Err(_)) => true,
+        _ => false,
+    }
+}
+
+/// Whether two sheets over one catalogue show the same: both are void, or both are settled, or both are open, with the same
+/// range at every register. Two that are at rest with the same limits and the same lines, at whatever places, do.
+pub fn compare<C: Catalogue>(a: &Sheet<C>, b: &Sheet<C>) -> bool
+    ensures answer { IsTrue result ↔ ShowSame a.now.table b.now.table }
+    ensures at_rest { C.meaning a.now.catalogue ≡ C.meaning b.now.catalogue → SameAtRest a.now.table b.now.table → IsTrue result }
+{
+    show_same(a, b)
 }

@@ -1,10 +1,10 @@
 -- What every table that some calls lead to keeps: its lengths, lines that pass the check, due places with a line, and a state that agrees with what is due.
-use Rattle.std.proofs.Common.{◌≡◌, ◌≢◌, ℕ, zero, suc, ◌<◌, Bool, true, false, cond, not, ◌||◌, ltb, List, [], ◌∷◌, length, set, is_some, Some, None, Ok, Err, Option, Result, sym, refl, ap, ◌∙◌, subst, ⊎_elim, arith}
+use Rattle.std.proofs.Common.{◌≡◌, ◌≢◌, ℕ, zero, suc, ◌<◌, Bool, true, false, cond, ◌||◌, ltb, List, [], ◌∷◌, length, set, is_some, Some, None, Ok, Err, Option, Result, sym, refl, ap, ◌∙◌, subst, ⊎_elim, arith}
 use Rattle.std.proofs.lemmas.List.{get_or-set_same, get_or-set_other, length-set}
-use Rattle.std.proofs.lemmas.Bool.{both_ways, cases_Bool, cases_eq, cond_both, or_cases, or_parts, ltb-true, not-false}
+use Rattle.std.proofs.lemmas.Bool.{both_ways, cases_eq, cond_both, or_cases, or_parts, ltb-true, not-false}
 use Rattle.catalogue.specs.declared.types.Range.{Range}
 use Rattle.catalogue.specs.declared.types.Triple.{Triple}
-use Rattle.catalogue.specs.Meanings.{Meaning, all_readings}
+use Rattle.catalogue.specs.Meanings.{Meaning}
 use Rattle.catalogue.specs.Ranges.{empty, holds_all, meet, smaller}
 use Rattle.sheet.specs.declared.lines.Line.{Line}
 use Rattle.sheet.specs.declared.table.Event.TheVariants.{Tightened, Loosened, Entered, Struck, Step}
@@ -12,11 +12,11 @@ use Rattle.sheet.specs.declared.table.State.{State}
 use Rattle.sheet.specs.declared.table.State.TheVariants.{Settled, Open, Void}
 use Rattle.sheet.specs.declared.table.Table.{Table}
 use Rattle.sheet.specs.Boards.{line_in, names, places_naming, places_with_line}
-use Rattle.sheet.specs.Calls.{bad_budget, limit_asked, limit_table, line_table, no_line, settle_table, strike_table}
+use Rattle.sheet.specs.Calls.{bad_budget, limit_asked, limit_table, line_table, no_line}
 use Rattle.sheet.specs.Histories.{Call, limit, enter, strike, settle, look, partner, after, called, passes_check}
 use Rattle.sheet.specs.Numbers.{no_place}
 use Rattle.sheet.specs.Places.{has, is_none, lowest, none, with_place, without}
-use Rattle.sheet.specs.Rules.{after_steps, at_rest, cut, cut_table, cuts, limits_at, line_at, narrowed_table, new_table, no_range, range_at, reaction, rest_or_open, results_of, settling, stands, step, step_at, step_of_line, table_after_enter, table_after_limit, table_after_strike, table_at_limits, table_in_limits, table_or_void, table_with_due, table_with_line, table_with_range, table_without_line, then, void_table}
+use Rattle.sheet.specs.Rules.{after_steps, at_rest, cut, cut_table, cuts, limits_at, line_at, narrowed_table, new_table, range_at, reaction, rest_or_open, results_of, settling, stands, step_at, step_of_line, table_after_enter, table_after_limit, table_after_strike, table_at_limits, table_in_limits, table_or_void, table_with_due, table_with_line, table_with_range, table_without_line, then, void_table}
 use Rattle.sheet.proofs.Boards.{in_range, naming_all, no_lines, standing_all}
 use Rattle.sheet.proofs.PlaceSets.{empty_has, none_has, not_none, union_from, with_from, with_here, without_from}
 

@@ -1,10 +1,9 @@
 -- What partner answers, in words: the line that the list of calls puts at a place decides, and the catalogue's law says what is named.
-use Rattle.std.proofs.Common.{◌≡◌, ◌≢◌, ℕ, ℤ, Bool, true, false, cond, not, ltb, List, is_some, Some, None, Ok, Err, Option, Result, sym, refl, ap, ◌∙◌, subst, arith}
+use Rattle.std.proofs.Common.{◌≡◌, ◌≢◌, ℕ, ℤ, true, false, not, List, is_some, Some, None, Ok, Err, Option, Result, sym, refl, ap, ◌∙◌, subst}
 use Rattle.std.proofs.lemmas.Bool.{cond-false, lt-ltb, or_from}
 use Rattle.catalogue.specs.declared.types.Refusal.{Refusal}
 use Rattle.catalogue.specs.Meanings.{Laws, Meaning}
 use Rattle.catalogue.specs.Partners.{SomeOf}
-use Rattle.catalogue.specs.Ranges.{Holds}
 use Rattle.catalogue.specs.Refusals.{numbered}
 use Rattle.sheet.specs.declared.lines.Line.{Line}
 use Rattle.sheet.specs.declared.table.State.{State}
@@ -14,7 +13,7 @@ use Rattle.sheet.specs.Calls.{is_void, no_line, partner_asked, partner_named, pa
 use Rattle.sheet.specs.Histories.{Call, after, line_of}
 use Rattle.sheet.specs.Numbers.{no_place}
 use Rattle.sheet.specs.Rules.{line_at, range_at, stands}
-use Rattle.sheet.specs.Words.{Allowed, IsPartnerAnswer}
+use Rattle.sheet.specs.Words.{IsPartnerAnswer}
 use Rattle.sheet.proofs.Kept.{Formed, kept_after, standing_place}
 use Rattle.sheet.proofs.Recounts.{line_after}
 

@@ -1,15 +1,13 @@
 -- The bits of a number are the set that the code means: a bit set, a bit cleared, the bits of two numbers, and the lowest bit.
-use Rattle.std.proofs.Common.{◌≡◌, ◌≢◌, ℕ, zero, suc, ◌+◌, ◌-◌, ◌*◌, ◌/◌, ◌%◌, ◌^◌, ◌<◌, ◌≤◌, Bool, true, false, cond, not, ◌&&◌, ◌||◌, eqb, ltb, List, [], ◌∷◌, Some, None, Option, sym, refl, ap, ◌∙◌, subst, ⊎_elim, w64, arith}
+use Rattle.std.proofs.Common.{◌≡◌, ◌≢◌, ℕ, zero, suc, ◌*◌, ◌%◌, ◌^◌, ◌<◌, Bool, true, false, not, ◌&&◌, ◌||◌, eqb, ltb, List, [], ◌∷◌, Some, sym, refl, ap, ◌∙◌, subst, ⊎_elim, w64, arith}
 use Rattle.std.specs.Int.{bit_at, bit_not}
 use Rattle.std.specs.Int.Bits.{bit_and, bit_or}
 use Rattle.std.specs.Int.Count.{count_trailing_zeros}
-use Rattle.std.specs.List.{position_from}
-use Rattle.std.proofs.lemmas.Nat.Bits.{bit_at-lt, bit_at-trailing_zeros, bit_at-zero, bit_at_clear_other, bit_at_clear_same, bit_at_or, bit_at_set_other, bit_at_set_same, same_from_bits, bit_at_above}
-use Rattle.std.proofs.lemmas.Bool.{eq-eqb, ne_eqb, eqb-true, eqb-false, cases_Bool, cases_eq, both_ways, or_right, and_right, ltb-true, ltb-false}
-use Rattle.sheet.specs.declared.places.Places.{Places}
+use Rattle.std.proofs.lemmas.Nat.Bits.{bit_at-lt, bit_at-trailing_zeros, bit_at-zero, bit_at_clear_other, bit_at_clear_same, bit_at_or, bit_at_set_other, bit_at_set_same}
+use Rattle.std.proofs.lemmas.Bool.{eq-eqb, ne_eqb, eqb-true, eqb-false, cases_Bool, cases_eq, or_right, and_right, ltb-true, ltb-false}
 use Rattle.sheet.specs.Bits.{bit_is_set, set_of}
-use Rattle.sheet.specs.Places.{Lowest, has, places_where, none, with_place, without, union, is_none, lowest}
-use Rattle.sheet.proofs.PlaceSets.{where_at, where_past, same_where, has_empty, first_place, no_place_first}
+use Rattle.sheet.specs.Places.{Lowest, has, none, with_place, without, union, is_none, lowest}
+use Rattle.sheet.proofs.PlaceSets.{where_at, where_past, same_where, has_empty, first_place}
 
 bit_on : (b k : ℕ) → bit_at b k ≡ 1 → bit_is_set b k ≡ true
 bit_on b k e = eq-eqb (bit_at b k) 1 e

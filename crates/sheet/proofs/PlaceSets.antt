@@ -1,11 +1,10 @@
 -- Sets of places: which places a set made by a test has, that two sets with the same places are one, and the lowest place.
-use Rattle.std.proofs.Common.{◌≡◌, ◌≢◌, ℕ, zero, suc, ◌+◌, ◌/◌, ◌%◌, ◌^◌, ◌<◌, ◌≤◌, Bool, true, false, cond, not, ◌&&◌, ◌||◌, eqb, ltb, List, [], ◌∷◌, length, get_or, Some, None, Option, sym, refl, ap, ◌∙◌, subst, ⊎_elim, arith}
+use Rattle.std.proofs.Common.{◌≡◌, ◌≢◌, ℕ, zero, suc, ◌+◌, ◌<◌, ◌≤◌, Bool, true, false, not, ◌&&◌, ◌||◌, eqb, ltb, [], ◌∷◌, Some, None, sym, refl, ap, ◌∙◌, subst, ⊎_elim, arith}
 use Rattle.std.specs.List.{position_from}
-use Rattle.std.proofs.lemmas.Bool.{eq-eqb, ne_eqb, eqb-true, eqb-false, and_left, and_right, or_left, or_right, cases_Bool, cases_eq, both_ways, ltb-true, ltb-false}
-use Rattle.std.proofs.lemmas.Grind.{common_steps}
+use Rattle.std.proofs.lemmas.Bool.{eq-eqb, ne_eqb, and_right, or_right, cases_Bool, both_ways, ltb-true, ltb-false}
 use Rattle.sheet.specs.declared.places.Places.{Places}
 use Rattle.sheet.specs.Bits.{tests_at, tests_past}
-use Rattle.sheet.specs.Places.{Lowest, has, tests, places_where, none, with_place, without, union, is_none, lowest}
+use Rattle.sheet.specs.Places.{has, tests, places_where, none, with_place, without, union, is_none, lowest}
 
 -- ---- the places that pass a test
 pub where_at : (p : ℕ → Bool) (k : ℕ) → k < 64 → has (places_where p) k ≡ p k

@@ -1,17 +1,16 @@
 -- The limits and the lines of the table that a history leads to are those of the history.
-use Rattle.std.proofs.Common.{◌≡◌, ◌≢◌, ℕ, zero, suc, ◌<◌, ◌≤◌, Bool, true, false, cond, not, ◌&&◌, ◌||◌, eqb, ltb, List, [], ◌∷◌, length, get_or, set, replicate, is_some, Some, None, Ok, Err, Option, Result, sym, refl, ap, ◌∙◌, subst, ⊎_elim, arith}
+use Rattle.std.proofs.Common.{◌≡◌, ◌≢◌, ℕ, zero, suc, ◌<◌, Bool, true, false, cond, not, ◌&&◌, ◌||◌, eqb, ltb, List, [], ◌∷◌, length, get_or, set, is_some, Some, None, Ok, Err, Result, sym, refl, ap, ◌∙◌, subst, ⊎_elim, arith}
 use Rattle.std.proofs.lemmas.List.{get_or-set_same, get_or-set_other, get_or-replicate, get_or_past}
-use Rattle.std.proofs.lemmas.Bool.{both_ways, cases_Bool, cases_eq, cond-true, cond-false, cond_both, eq-eqb, ne_eqb, lt-ltb, ltb-true, ltb-false, not-false, not-true, or_cases, or_parts, and_left, and_right}
+use Rattle.std.proofs.lemmas.Bool.{cases_Bool, cases_eq, cond-true, cond-false, cond_both, eq-eqb, ne_eqb, lt-ltb, ltb-true, ltb-false, not-false, not-true, or_cases, or_parts, and_left, and_right}
 use Rattle.catalogue.specs.declared.types.Range.{Range}
 use Rattle.catalogue.specs.Meanings.{Meaning, all_readings}
-use Rattle.sheet.specs.declared.lines.Line.{Line}
 use Rattle.sheet.specs.declared.table.Table.{Table}
 use Rattle.sheet.specs.Boards.{line_in}
-use Rattle.sheet.specs.Calls.{bad_budget, limit_asked, limit_table, limits_read, line_table, no_line, settle_table, strike_table}
-use Rattle.sheet.specs.Histories.{Call, limit, enter, strike, settle, look, partner, after, called, limits_got, limits_of, line_of, passes_check}
+use Rattle.sheet.specs.Calls.{bad_budget, limit_asked, limit_table, limits_read, line_table, no_line}
+use Rattle.sheet.specs.Histories.{Call, limit, enter, strike, settle, look, partner, after, limits_got, limits_of, line_of, passes_check}
 use Rattle.sheet.specs.Numbers.{no_place, no_register}
-use Rattle.sheet.specs.Rules.{limits_at, line_at, new_table, no_range, settling, stands, table_after_enter, table_after_limit, table_after_strike}
-use Rattle.sheet.specs.Words.{AreSteps, IsStep}
+use Rattle.sheet.specs.Rules.{limits_at, line_at, no_range, settling, stands, table_after_enter, table_after_strike}
+use Rattle.sheet.specs.Words.{AreSteps}
 use Rattle.sheet.proofs.Boards.{no_lines, none_from}
 use Rattle.sheet.proofs.Kept.{Kept, kept_after}
 use Rattle.sheet.proofs.Wordings.{enter_words, limit_words, settle_words, strike_words}

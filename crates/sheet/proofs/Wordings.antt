@@ -1,24 +1,23 @@
 -- What the rules make of a table, in words: a cut, a step, a settle, a limit, an enter and a strike.
-use Rattle.std.proofs.Common.{◌≡◌, ◌≢◌, ℕ, zero, suc, ◌+◌, ◌<◌, ◌≤◌, Bool, true, false, cond, not, ◌&&◌, ◌||◌, ◌⊎◌, inl, inr, eqb, ltb, List, length, get_or, set, is_some, Some, None, Ok, Err, Option, Result, sym, refl, ap, ◌∙◌, subst, ⊎_elim, arith}
+use Rattle.std.proofs.Common.{◌≡◌, ◌≢◌, ℕ, zero, suc, ◌+◌, ◌<◌, Bool, true, false, not, ◌&&◌, ◌||◌, ◌⊎◌, inl, inr, eqb, ltb, length, get_or, set, is_some, Some, None, Option, sym, refl, ap, ◌∙◌, subst, ⊎_elim, arith}
 use Rattle.std.proofs.lemmas.Int.{ints}
 use Rattle.std.proofs.lemmas.List.{get_or-set_same, get_or-set_other, length-set}
-use Rattle.std.proofs.lemmas.Bool.{both_ways, cases_Bool, cases_eq, cond-true, cond-false, cond_both, eq-eqb, eqb-true, eqb-false, ne_eqb, or_cases, or_left, or_right, or_parts, and_parts, ltb-true, not-false}
+use Rattle.std.proofs.lemmas.Bool.{both_ways, cases_eq, cond_both, eq-eqb, eqb-true, ne_eqb, or_cases, or_left, or_right, and_parts, ltb-true}
 use Rattle.catalogue.specs.declared.types.Range.{Range}
 use Rattle.catalogue.specs.declared.types.Triple.{Triple}
 use Rattle.catalogue.specs.Meanings.{Meaning}
 use Rattle.catalogue.specs.Ranges.{Proper, Within, empty, holds_all, meet, smaller}
 use Rattle.catalogue.proofs.Laws.{range_same}
 use Rattle.sheet.specs.declared.lines.Line.{Line}
-use Rattle.sheet.specs.declared.table.Event.{Event}
 use Rattle.sheet.specs.declared.table.Event.TheVariants.{Tightened, Loosened, Entered, Struck, Step}
 use Rattle.sheet.specs.declared.table.State.{State}
 use Rattle.sheet.specs.declared.table.State.TheVariants.{Settled, Open, Void}
 use Rattle.sheet.specs.declared.table.Table.{Table}
-use Rattle.sheet.specs.Boards.{names, places_naming, places_with_line}
+use Rattle.sheet.specs.Boards.{names, places_naming}
 use Rattle.sheet.specs.Histories.{passes_check}
-use Rattle.sheet.specs.Places.{Lowest, has, is_none, lowest, none, union, with_place, without}
-use Rattle.sheet.specs.Rules.{after_steps, at_rest, cut, cut_table, cuts, limit_event, limits_at, line_at, narrowed_table, no_range, range_at, ranges_of, reaction, rest_or_open, results_of, settling, stands, step, step_at, step_of_line, table_after_enter, table_after_limit, table_after_strike, table_at_limits, table_in_limits, table_or_void, table_with_due, table_with_line, table_with_range, table_without_line, then, void_table}
-use Rattle.sheet.specs.Words.{AreSteps, AtLimits, DueExactly, IsCut, IsEnter, IsLimit, IsSettle, IsStep, IsStrike, IsVoid, Names, NamesChanged, Narrows, NothingLeft, SettledOrOpen, Takes, Tightens, common_if, gets}
+use Rattle.sheet.specs.Places.{has, lowest, without}
+use Rattle.sheet.specs.Rules.{after_steps, at_rest, cut, cut_table, cuts, limits_at, line_at, no_range, range_at, reaction, rest_or_open, results_of, settling, stands, step, step_at, step_of_line, table_after_enter, table_after_limit, table_after_strike, table_at_limits, table_in_limits, table_or_void, table_with_due, table_with_line, table_with_range, table_without_line, then, void_table}
+use Rattle.sheet.specs.Words.{AreSteps, AtLimits, IsEnter, IsLimit, IsSettle, IsStep, IsStrike, IsVoid, Names, NamesChanged, Narrows, Takes, Tightens, common_if, gets}
 use Rattle.sheet.proofs.Boards.{naming_at, standing_at}
 use Rattle.sheet.proofs.Kept.{Formed, Kept, formed_cut, kept_step, named_stands, standing_place}
 use Rattle.sheet.proofs.Meets.{empty_from, meet_comm, meet_left, meet_right, meet_whole, proper_from, same_or_not, smaller_differs, within_self, within_then}
@@ -297,13 +296,13 @@ module _ (m : Meaning) (t : Table) (kept : Kept t) (is_open : t.state ≡ Open) 
       ranges = λ r _. h.0 r;
       due = λ k lt. (
         (λ d. ⊎_elim
-        (λ (e : has taken.due k ≡ true). inl (due_taken k lt e))
-        (λ (c : NamesChanged taken u k). inr (record { line = c.line; register = c.register; there = c.there; names = c.names; changed = c.changed }))
-        (h.1.1.1.from k lt d)),
+            (λ (e : has taken.due k ≡ true). inl (due_taken k lt e))
+            (λ (c : NamesChanged taken u k). inr (record { line = c.line; register = c.register; there = c.there; names = c.names; changed = c.changed }))
+            (h.1.1.1.from k lt d)),
         (λ d. ⊎_elim
-        (λ (e : (has t.due k ≡ true) × (k ≢ n)). h.1.1.1.to k lt (inl (taken_due k lt e)))
-        (λ (c : NamesChanged t (rest_or_open u) k). h.1.1.1.to k lt (inr (record { line = c.line; register = c.register; there = c.there; names = c.names; changed = c.changed })))
-        d),
+            (λ (e : (has t.due k ≡ true) × (k ≢ n)). h.1.1.1.to k lt (inl (taken_due k lt e)))
+            (λ (c : NamesChanged t (rest_or_open u) k). h.1.1.1.to k lt (inr (record { line = c.line; register = c.register; there = c.there; names = c.names; changed = c.changed })))
+            d),
       );
       state = refl;
     }
@@ -384,14 +383,24 @@ module _ (m : Meaning) where
 
     cut_to : (o : Option Table) → Leaves r lr b limited limited_formed o → Live (table_or_void limited o)
     cut_to None h = (refl, (refl, λ ne. inr (inl (ne, h, record { state = refl; due = none_has }))))
-    cut_to (Some u) h = (h.1.1.narrower.limits, (h.1.1.narrower.lines, λ ne. inr (inr (ne, h.0, record {
-      ranges = λ q _. cut_gets r b limited u h.1.1 q;
-      due = λ k lt. (
-        (λ d. ⊎_elim (λ (e : has t.due k ≡ true). inl e) (λ (c : NamesChanged limited u k). inr (record { line = c.line; register = c.register; there = c.there; names = c.names; changed = c.changed })) (h.1.1.narrower.from k lt d)),
-        (λ d. h.1.1.narrower.to k lt (⊎_elim (λ (e : has t.due k ≡ true). inl e) (λ (c : NamesChanged t (rest_or_open u) k). inr (record { line = c.line; register = c.register; there = c.there; names = c.names; changed = c.changed })) d)),
-      );
-      state = refl;
-    }))))
+    cut_to (Some u) h = (
+      h.1.1.narrower.limits,
+      (
+        h.1.1.narrower.lines,
+        λ ne. inr (inr (
+          ne,
+          h.0,
+          record {
+            ranges = λ q _. cut_gets r b limited u h.1.1 q;
+            due = λ k lt. (
+              (λ d. ⊎_elim (λ (e : has t.due k ≡ true). inl e) (λ (c : NamesChanged limited u k). inr (record { line = c.line; register = c.register; there = c.there; names = c.names; changed = c.changed })) (h.1.1.narrower.from k lt d)),
+              (λ d. h.1.1.narrower.to k lt (⊎_elim (λ (e : has t.due k ≡ true). inl e) (λ (c : NamesChanged t (rest_or_open u) k). inr (record { line = c.line; register = c.register; there = c.there; names = c.names; changed = c.changed })) d)),
+            );
+            state = refl;
+          },
+        )),
+      ),
+    )
 
     in_limits : Live (table_in_limits r limited)
     in_limits =
@@ -429,9 +438,13 @@ module _ (m : Meaning) where
         ranges = refl;
         lines = refl;
         void = λ v. absurd (ne (sym e ∙ v));
-        live = λ _. (refl, λ k h. (
-          (λ d. ⊎_elim (λ a. inl a) (λ b. inr (eqb-true k n b)) (or_cases (has t.due k) (eqb k n) (sym (with_has n t.due k h) ∙ d))),
-          (λ d. with_has n t.due k h ∙ ⊎_elim (λ a. or_left (has t.due k) (eqb k n) a) (λ b. or_right (has t.due k) (eqb k n) (eq-eqb k n b)) d)));
+        live = λ _. (
+          refl,
+          λ k h. (
+            (λ d. ⊎_elim (λ a. inl a) (λ b. inr (eqb-true k n b)) (or_cases (has t.due k) (eqb k n) (sym (with_has n t.due k h) ∙ d))),
+            (λ d. with_has n t.due k h ∙ ⊎_elim (λ a. or_left (has t.due k) (eqb k n) a) (λ b. or_right (has t.due k) (eqb k n) (eq-eqb k n b)) d),
+          ),
+        );
       }
 
       by : (s : State) → t.state ≡ s → IsEnter n l t (reaction m s (Entered n) (table_with_line n l t))

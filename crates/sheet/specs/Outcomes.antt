@@ -1,5 +1,5 @@
 -- The texts of an outcome and of a state.
-use Rattle.std.specs.Prelude.{ℕ, cond, List, ◌++◌, codes, ◌==◌}
+use Rattle.std.specs.Prelude.{ℕ, cond, List, codes, ◌==◌}
 use Rattle.sheet.specs.declared.table.State.{State}
 use Rattle.sheet.specs.declared.table.State.TheVariants.{Settled, Open, Void}
 

@@ -1,11 +1,10 @@
 -- The rules of a table: what each event, and each step, makes of it.
-use Rattle.std.specs.Prelude.{ℕ, zero, suc, ◌+◌, Bool, true, false, cond, List, replicate, pos, is_some, Some, None, Ok, Err, Option, Result, slice_index_or, slice_set}
+use Rattle.std.specs.Prelude.{ℕ, zero, suc, ◌+◌, Bool, true, false, cond, replicate, pos, is_some, Some, None, Ok, Err, Option, Result, slice_index_or, slice_set}
 use Rattle.catalogue.specs.declared.types.Range.{Range}
 use Rattle.catalogue.specs.declared.types.Triple.{Triple}
 use Rattle.catalogue.specs.Meanings.{Meaning, all_readings}
 use Rattle.catalogue.specs.Ranges.{empty, holds_all, meet, smaller}
 use Rattle.sheet.specs.declared.lines.Line.{Line}
-use Rattle.sheet.specs.declared.places.Places.{Places}
 use Rattle.sheet.specs.declared.table.Empty.{Empty}
 use Rattle.sheet.specs.declared.table.Event.{Event}
 use Rattle.sheet.specs.declared.table.Event.TheVariants.{Tightened, Loosened, Entered, Struck, Step}

@@ -1,4 +1,4 @@
-ghost use Rattle.std.specs.Prelude.{◌≡◌, ◌≢◌, ℤ, IfOk, List, OnOk};
+ghost use Rattle.std.specs.Prelude.{◌≡◌, ◌≢◌, ◌↔◌, ℤ, IfOk, IsTrue, List, OnOk};
 ghost use Rattle.catalogue.specs.declared.types.Range.{Range};
 ghost use Rattle.catalogue.specs.Refusals.{numbered};
 ghost use Rattle.sheet.specs.declared.lines.Line.{Line};
@@ -150,7 +150,10 @@ impl<C: Catalogue> Sheet<C> {
     fn patterns(&self, range: Range) -> (u32, u32)
         ensures { result ≡ ((C.meaning self.now.catalogue).writes range.low, (C.meaning self.now.catalogue).writes range.high) }
     {
-        (self.catalogue.pattern(range.low), self.catalogue.pattern(range.high))
+        (
+            self.catalogue.pattern(range.low),
+            self.catalogue.pattern(range.high),
+        )
     }
 
     /// The ranks of two patterns.
@@ -219,6 +222,14 @@ impl<C: Catalogue> Look<'_, C> {
         ensures { result ≡ is_settled self.now.sheet.now.table.state }
     {
         matches!(self.sheet.table.state, State::Settled)
+    }
+
+    /// Whether another look shows the same: both sheets are settled, or both are open, with the same range at every register.
+    pub fn shows_same(&self, other: &Look<'_, C>) -> bool
+        ensures { IsTrue result ↔ ((is_settled self.now.sheet.now.table.state ≡ is_settled other.now.sheet.now.table.state) × (self.now.sheet.now.table.ranges ≡ other.now.sheet.now.table.ranges)) }
+    {
+        self.is_settled() == other.is_settled()
+            && self.sheet.table.ranges == other.sheet.table.ranges
     }
 
     /// Some y of a line's shown range that makes an allowed triple with x and z, as a pattern.

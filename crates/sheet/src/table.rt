@@ -1,7 +1,7 @@
+use crate::REGISTERS;
 use crate::board::Board;
 use crate::places::{Place, Places};
 use crate::registers::Register;
-use crate::REGISTERS;
 use catalogue::types::Range;
 
 /// The line at a place, as plain numbers, which the check makes a line again: the row of a free place is no line. A type

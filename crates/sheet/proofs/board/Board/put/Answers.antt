@@ -1,4 +1,4 @@
-use Rattle.std.proofs.Common.{◌≡◌, ◌<◌, Some, None, length, set, ap, ◌∙◌, subst, arith}
+use Rattle.std.proofs.Common.{◌≡◌, ◌<◌, Some, None, set, ap, ◌∙◌, subst}
 use Rattle.sheet.proofs.Boards.{lines_put, none_from, put_agrees, remade}
 use Rattle.sheet.specs.Boards.{line_in, lines_of, index_with}
 use Rattle.sheet.specs.Lines.{row_of}

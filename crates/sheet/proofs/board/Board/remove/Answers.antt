@@ -1,4 +1,4 @@
-use Rattle.std.proofs.Common.{rules, ◌≡◌, ◌<◌, Some, None, length, set, ap, ◌∙◌, arith}
+use Rattle.std.proofs.Common.{rules, ◌≡◌, ◌<◌, Some, None, set, ap, ◌∙◌, arith}
 use Rattle.sheet.proofs.Boards.{in_range, lines_length, lines_take, taken_agrees}
 use Rattle.sheet.specs.Boards.{line_in, lines_of, index_without}
 use Rattle.sheet.proofs.board.Board.remove.Goals as goal

@@ -1,7 +1,7 @@
 use Rattle.std.proofs.Common.{◌≡◌, ℕ, ◌^◌, ◌<◌, true, false, sym, ap, ◌∙◌, eqb}
 use Rattle.sheet.specs.declared.places.Places.{Places}
 use Rattle.sheet.specs.Bits.{set_of}
-use Rattle.sheet.specs.Places.{Lowest, is_none, lowest}
+use Rattle.sheet.specs.Places.{is_none}
 use Rattle.sheet.proofs.PlaceBits.{is_zero, low_bit, low_first}
 use Rattle.sheet.proofs.PlaceSets.{empty_has, no_place_first}
 use Rattle.sheet.proofs.places.Places.lowest.Goals as goal

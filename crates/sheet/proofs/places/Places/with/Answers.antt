@@ -1,6 +1,5 @@
-use Rattle.std.proofs.Common.{◌≡◌, ap, ◌∙◌, arith}
+use Rattle.std.proofs.Common.{arith}
 use Rattle.std.proofs.lemmas.Nat.{or_lt}
-use Rattle.sheet.specs.Places.{with_place}
 use Rattle.sheet.proofs.PlaceBits.{with_bit}
 use Rattle.sheet.proofs.places.Places.with.Goals as goal
 

@@ -4,7 +4,7 @@ use Rattle.sheet.specs.Rules.{table_after_enter}
 use Rattle.sheet.specs.Words.{IsEnter}
 use Rattle.sheet.proofs.Wordings.{enter_words}
 use Rattle.sheet.specs.Histories.{called, enter}
-use Rattle.sheet.proofs.Reaching.{kept_if_reached, reached_by}
+use Rattle.sheet.proofs.Reaching.{reached_by}
 use Rattle.sheet.proofs.sheet.Sheet.enter.Goals as goal
 
 pub invariant_of-self : goal.invariant_of-self

@@ -1,5 +1,4 @@
-use Rattle.std.proofs.Common.{rules, ◌≡◌, sym, ap, subst}
-use Rattle.sheet.specs.Rules.{settling}
+use Rattle.std.proofs.Common.{rules, ◌≡◌, subst}
 use Rattle.sheet.specs.Words.{IsSettle}
 use Rattle.sheet.proofs.Wordings.{settle_words}
 use Rattle.sheet.specs.Histories.{called, settle}

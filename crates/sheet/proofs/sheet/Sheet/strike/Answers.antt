@@ -3,7 +3,7 @@ use Rattle.sheet.specs.Rules.{table_after_strike}
 use Rattle.sheet.specs.Words.{IsStrike}
 use Rattle.sheet.proofs.Wordings.{strike_words}
 use Rattle.sheet.specs.Histories.{called, strike}
-use Rattle.sheet.proofs.Reaching.{kept_if_reached, reached_by}
+use Rattle.sheet.proofs.Reaching.{reached_by}
 use Rattle.sheet.proofs.sheet.Sheet.strike.Goals as goal
 
 pub invariant_of-self : goal.invariant_of-self
