@@ -6,11 +6,11 @@ use Rattle.commands.specs.declared.Command.{Command}
 use Rattle.commands.specs.declared.Command.TheVariants.{Limit, Enter, Strike, Settle, Look, Partner}
 use Rattle.sheet.specs.declared.lines.Line.{Line}
 use Rattle.sheet.specs.Calls.{drawn_table, line_table}
-use Rattle.sheet.specs.Lines.{checked}
+use Rattle.sheet.specs.Lines.{checked_line}
 use Rattle.promise.specs.Histories.{Call, after, passes_check}
-use Rattle.promise.specs.Promise.{Shows}
+use Rattle.promise.specs.Promise.{ShowsAfter}
 use Rattle.promise.proofs.Promised.{promise_kept}
-use Rattle.promise.proofs.Remade.{Passed, checked_passed}
+use Rattle.promise.proofs.Passing.{Passed, checked_passed}
 use Rattle.answers.specs.Texts.{line_of}
 use Rattle.commands.specs.Commands.{command_of}
 use Rattle.sheet.specs.declared.table.Table.{Table}
@@ -26,7 +26,7 @@ entered_after m n h (Ok l) p = sym (cond-true (passes_check l) (line_table m n l
 command_after : (m : Meaning) (c : Option Command) (h : List Call) → table_after m c (after m h) ≡ after m (calls_of c ++ h)
 command_after m None h = refl
 command_after m (Some (Limit r low high)) h = refl
-command_after m (Some (Enter n d)) h = entered_after m n h (checked d) (checked_passed d)
+command_after m (Some (Enter n d)) h = entered_after m n h (checked_line d) (checked_passed d)
 command_after m (Some (Strike n)) h = refl
 command_after m (Some (Settle b)) h = refl
 command_after m (Some (Look r)) h = refl
@@ -35,11 +35,11 @@ command_after m (Some (Partner n x z)) h = refl
 pub leads_on : (m : Meaning) → Laws m → (c : Option Command) (h : List Call) (t u : Table) → u ≡ table_after m c t → t ≡ after m h → Leads m (calls_of c ++ h) u
 leads_on m laws c h t u e f =
     let here : u ≡ after m (calls_of c ++ h) = e ∙ ap (table_after m c) f ∙ command_after m c h in
-    record { is = here; shows = subst (Shows m (calls_of c ++ h)) (sym here) ((promise_kept m laws).shows (calls_of c ++ h)) }
+    record { is = here; shows = subst (ShowsAfter m (calls_of c ++ h)) (sym here) ((promise_kept m laws).shows (calls_of c ++ h)) }
 
 -- ---- a whole script
 told_from : (m : Meaning) → Laws m → (ls : List (List ℕ)) (h : List Call) (t : Table) → t ≡ after m h → Leads m (calls_of_all ls h) (table_after_all m ls t)
-told_from m laws [] h t e = record { is = e; shows = subst (Shows m h) (sym e) ((promise_kept m laws).shows h) }
+told_from m laws [] h t e = record { is = e; shows = subst (ShowsAfter m h) (sym e) ((promise_kept m laws).shows h) }
 told_from m laws (l ∷ ls) h t e = told_from m laws ls (calls_of (command_of l) ++ h) (table_after m (command_of l) t) (leads_on m laws (command_of l) h t (table_after m (command_of l) t) refl e).is
 
 going_on : (m : Meaning) (ls ks : List (List ℕ)) (t : Table) → answers m (ls ++ ks) t ≡ answers m ls t ++ answers m ks (table_after_all m ls t)

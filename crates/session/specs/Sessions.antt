@@ -9,9 +9,9 @@ use Rattle.sheet.specs.declared.lines.Line.{Line}
 use Rattle.sheet.specs.declared.table.Table.{Table}
 use Rattle.sheet.specs.Calls.{done, drawn_asked, drawn_table, limit_asked, limit_table, strike_asked, strike_table, settle_asked, settle_table, partner_asked}
 use Rattle.promise.specs.Histories.{Call, limit, enter, strike, settle, look, partner, after}
-use Rattle.promise.specs.Promise.{Shows}
+use Rattle.promise.specs.Promise.{ShowsAfter}
 use Rattle.promise.specs.Shown.{show_asked}
-use Rattle.sheet.specs.Lines.{checked}
+use Rattle.sheet.specs.Lines.{checked_line}
 use Rattle.sheet.specs.Rules.{new_table}
 use Rattle.words.specs.Lines.{lines}
 use Rattle.words.specs.Words.{front, back}
@@ -49,7 +49,7 @@ reply_or (Err e) = refused (refusal_number e)
 abbrev pub replied : Meaning → Option Command → Table → Reply
 replied m None t = refused 10
 replied m (Some (Limit r low high)) t = ok_or (done (limit_asked m r low high))
-replied m (Some (Enter n d)) t = ok_or (drawn_asked n (checked d) t)
+replied m (Some (Enter n d)) t = ok_or (drawn_asked n (checked_line d) t)
 replied m (Some (Strike n)) t = ok_or (strike_asked n t)
 replied m (Some (Settle b)) t = stepped_or (settle_asked m b t)
 replied m (Some (Look r)) t = shown_or (show_asked m r t)
@@ -59,7 +59,7 @@ replied m (Some (Partner n x z)) t = paired_or (partner_asked m n x z t)
 abbrev pub table_after : Meaning → Option Command → Table → Table
 table_after m None t = t
 table_after m (Some (Limit r low high)) t = limit_table m r (limit_asked m r low high) t
-table_after m (Some (Enter n d)) t = drawn_table m n (checked d) t
+table_after m (Some (Enter n d)) t = drawn_table m n (checked_line d) t
 table_after m (Some (Strike n)) t = strike_table m n t
 table_after m (Some (Settle b)) t = settle_table m b t
 table_after m (Some (Look r)) t = t
@@ -73,7 +73,7 @@ entering n (Ok l) = enter n l ∷ []
 abbrev pub calls_of : Option Command → List Call
 calls_of None = []
 calls_of (Some (Limit r low high)) = limit r low high ∷ []
-calls_of (Some (Enter n d)) = entering n (checked d)
+calls_of (Some (Enter n d)) = entering n (checked_line d)
 calls_of (Some (Strike n)) = strike n ∷ []
 calls_of (Some (Settle b)) = settle b ∷ []
 calls_of (Some (Look r)) = look r ∷ []
@@ -82,7 +82,11 @@ calls_of (Some (Partner n x z)) = partner n x z ∷ []
 -- a table is what a history leads to, and shows what the promise says of that history
 pub record Leads (m : Meaning) (h : List Call) (t : Table) : Type 0 where
   pub is : t ≡ after m h
-  pub shows : Shows m h t
+  pub shows : ShowsAfter m h t
+
+-- some list of calls led to the table t, and with these calls it leads on to u
+abbrev pub LeadsOn : Meaning → List Call → Table → Table → Type 0
+LeadsOn m calls t u = (h : List Call) × ((t ≡ after m h) × Leads m (calls ++ h) u)
 
 -- ---- a whole script
 

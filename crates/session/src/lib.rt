@@ -9,7 +9,7 @@ ghost use Rattle.commands.specs.Commands.{command_of};
 ghost use Rattle.promise.specs.Histories.{Call, after};
 ghost use Rattle.promise.specs.Promise.{Consequences, Promise};
 ghost use Rattle.session.specs.declared.TheConstants.{MOST_BYTES};
-ghost use Rattle.session.specs.Sessions.{Leads, Told, answers, calls_of, replied, reply_or, table_after, written_for};
+ghost use Rattle.session.specs.Sessions.{Leads, LeadsOn, Told, answers, calls_of, replied, reply_or, table_after, written_for};
 ghost use Rattle.sheet.specs.Rules.{new_table};
 ghost use Rattle.words.specs.Lines.{lines};
 
@@ -61,13 +61,14 @@ fn respond<C: Catalogue>(sheet: &mut Sheet<C>, line: &[u8]) -> Result<Answer, Re
     carry_out(sheet, command)
 }
 
-/// Carries out the command that a line stands for, and answers it. A sheet that some history of calls led to is then
-/// what that history with this call leads to, and shows what the promise says.
+/// Carries out the command that a line stands for, and answers it. Whatever calls led to the sheet, with this line's call
+/// they lead to what it is then, and it shows what the promise says.
 pub fn answer<C: Catalogue>(sheet: &mut Sheet<C>, line: &[u8]) -> Answer
     ensures answer { reply_of result ≡ replied (C.meaning sheet.old.catalogue) (command_of line.now) sheet.old.table }
     ensures table { sheet.new.table ≡ table_after (C.meaning sheet.old.catalogue) (command_of line.now) sheet.old.table }
     ensures catalogue { sheet.new.catalogue ≡ sheet.old.catalogue }
     ensures history { (h : List Call) → sheet.old.table ≡ after (C.meaning sheet.old.catalogue) h → Leads (C.meaning sheet.old.catalogue) (calls_of (command_of line.now) ++ h) sheet.new.table }
+    ensures leads_on { ∥ LeadsOn (C.meaning sheet.old.catalogue) (calls_of (command_of line.now)) sheet.old.table sheet.new.table ∥₁ }
     ensures promise { Promise (C.meaning sheet.old.catalogue) }
     ensures consequences { Consequences (C.meaning sheet.old.catalogue) }
 {
