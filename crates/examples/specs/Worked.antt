@@ -1,5 +1,5 @@
 -- Worked examples of the definitions, each of which computes.
-use Rattle.std.specs.Prelude.{◌≡◌, ℕ, ◌+◌, true, List, [], ◌∷◌, ℤ, pos, ◌+ℤ◌, neg_ℤ, is_some, Some, None, Err}
+use Rattle.std.specs.Prelude.{◌≡◌, ℕ, ◌+◌, Bool, true, false, List, [], ◌∷◌, ℤ, pos, ◌+ℤ◌, neg_ℤ, is_some, Some, None, Ok, Err}
 use Rattle.catalogue.specs.declared.types.Kind.{Kind}
 use Rattle.catalogue.specs.declared.types.Kind.TheVariants.{Sum, Difference, Peak}
 use Rattle.catalogue.specs.declared.types.Modes.{Modes}
@@ -14,9 +14,11 @@ use Rattle.binary32.specs.Computed.{rounded}
 use Rattle.binary32.specs.Units.{beyond, value}
 use Rattle.counters.specs.Counters.{counter}
 use Rattle.sheet.specs.declared.lines.Line.{Line}
-use Rattle.sheet.specs.declared.table.State.TheVariants.{Settled}
+use Rattle.sheet.specs.declared.table.State.TheVariants.{Settled, Open, Void}
 use Rattle.sheet.specs.declared.table.Table.{Table}
-use Rattle.sheet.specs.Rules.{new_table, limited, entered, settled, range_at}
+use Rattle.sheet.specs.Calls.{limits_asked, line_asked}
+use Rattle.sheet.specs.Places.{has}
+use Rattle.sheet.specs.Rules.{new_table, table_after_limit, table_after_enter, table_after_strike, settling, range_at}
 
 abbrev pub from_to : ℕ → ℕ → Range
 from_to l h = record { low = pos l; high = pos h }
@@ -33,10 +35,28 @@ line k x y z = record { operation = record { kind = k; modes = nearest_alone }; 
 -- a new sheet after limits of registers 0, 1, .. in turn, and a line at place 0, settled
 abbrev pub limits_from : Meaning → ℕ → List Range → Table → Table
 limits_from m r [] t = t
-limits_from m r (b ∷ bs) t = limits_from m (r + 1) bs (limited m r b t)
+limits_from m r (b ∷ bs) t = limits_from m (r + 1) bs (table_after_limit m r b t)
 
 abbrev pub sheet_of : Meaning → List Range → Line → Table
-sheet_of m bs l = (settled m 100 (entered m 0 l (limits_from m 0 bs (new_table m)))).table
+sheet_of m bs l = (settling m 100 (table_after_enter m 0 l (limits_from m 0 bs (new_table m)))).table
+
+-- counters 0..100 and 50..60 whose sum is 120..200, with this line at place 0, and at place 3 a peak of three other registers
+abbrev pub two_lines : Table
+two_lines =
+    table_after_enter counter 3 (line Peak 5 6 7)
+    (table_after_enter counter 0 (line Sum 0 1 2) (limits_from counter 0 (from_to 0 100 ∷ from_to 50 60 ∷ from_to 120 200 ∷ []) (new_table counter)))
+
+-- the same after so many steps, as far as they go
+abbrev pub two_lines_after : ℕ → Table
+two_lines_after k = (settling counter k two_lines).table
+
+-- the places 0 and 3, each due or not
+abbrev pub due_0_and_3 : Table → Bool × Bool
+due_0_and_3 t = (has t.due 0, has t.due 3)
+
+-- a register that is to be the sum of itself, 1, and itself: void
+abbrev pub one_and_one : Table
+one_and_one = sheet_of counter (from_to 1 1 ∷ []) (line Sum 0 0 0)
 
 -- patterns of binary32, by the ranks that they have
 abbrev pub negative : ℕ → ℤ
@@ -122,3 +142,26 @@ pub record Worked : Type 0 where
   pub doubled_x : range_at (sheet_of counter (from_to 10 20 ∷ from_to 30 100 ∷ []) (line Sum 0 0 1)) 0 ≡ from_to 10 20
   pub doubled_z : range_at (sheet_of counter (from_to 10 20 ∷ from_to 30 100 ∷ []) (line Sum 0 0 1)) 1 ≡ from_to 30 40
   pub at_rest : (sheet_of counter (from_to 10 20 ∷ from_to 30 100 ∷ []) (line Sum 0 0 1)).state ≡ Settled
+  -- two lines, entered: both are due; the first step takes place 0, changes registers 0 and 2, and so that line is due again; the second changes nothing, and the third takes place 3
+  pub both_due : due_0_and_3 two_lines ≡ (true, true)
+  pub due_again : due_0_and_3 (two_lines_after 1) ≡ (true, true)
+  pub due_no_more : due_0_and_3 (two_lines_after 2) ≡ (false, true)
+  pub open_still : (two_lines_after 2).state ≡ Open
+  pub three_steps : (settling counter 100 two_lines).steps ≡ 3
+  pub settled_then : (two_lines_after 3).state ≡ Settled
+  -- new limits inside the old ones, which cut register 1 to 55..60: the line that names it is due, and the other is not
+  pub tightened : due_0_and_3 (table_after_limit counter 1 (from_to 55 60) (two_lines_after 3)) ≡ (true, false)
+  -- limits that are not inside the old ones: all lines are due, and register 0 shows its limits again
+  pub loosened : due_0_and_3 (table_after_limit counter 1 (from_to 0 60) (two_lines_after 3)) ≡ (true, true)
+  pub loosened_range : range_at (table_after_limit counter 1 (from_to 0 60) (two_lines_after 3)) 0 ≡ from_to 0 100
+  -- a strike of place 0: the other line is due, and register 0 shows its limits again
+  pub struck : due_0_and_3 (table_after_strike counter 0 (two_lines_after 3)) ≡ (false, true)
+  pub struck_range : range_at (table_after_strike counter 0 (two_lines_after 3)) 0 ≡ from_to 0 100
+  -- 1 + 1 is not 1: void, with its limits still told
+  pub void_sheet : one_and_one.state ≡ Void
+  pub void_limits : limits_asked 0 one_and_one ≡ Ok (from_to 1 1)
+  -- read back: the limits of a register that there is not, the line at a place, no line, and a place that there is not
+  pub no_register_told : limits_asked 32 two_lines ≡ Err 1
+  pub line_told : line_asked 3 two_lines ≡ Ok (Some (line Peak 5 6 7))
+  pub no_line_told : line_asked 1 two_lines ≡ Ok None
+  pub no_place_told : line_asked 64 two_lines ≡ Err 7

@@ -8,7 +8,7 @@ ghost use Rattle.std.specs.Prelude.{◌≡◌};
 /// How many worked examples there are; the contract proves each of them of the definitions.
 pub fn worked_examples() -> u32
     ensures list { Worked }
-    ensures count { result ≡ 42 }
+    ensures count { result ≡ 59 }
 {
-    42
+    59
 }

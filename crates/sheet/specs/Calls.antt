@@ -5,7 +5,6 @@ use Rattle.catalogue.specs.declared.types.Range.{Range}
 use Rattle.catalogue.specs.declared.types.Refusal.{Refusal}
 use Rattle.catalogue.specs.declared.types.Refusal.TheVariants.{NoLineThere}
 use Rattle.catalogue.specs.Meanings.{Meaning}
-use Rattle.catalogue.specs.Partners.{SomeOf}
 use Rattle.catalogue.specs.Refusals.{refusal_number}
 use Rattle.sheet.specs.declared.lines.CheckedLine.{CheckedLine}
 use Rattle.sheet.specs.declared.lines.Line.{Line}
@@ -151,10 +150,6 @@ pattern_or_none m (Some y) = Some (m.writes y)
 
 abbrev pub partner_named : Meaning → Line → ℤ × ℤ → Table → Option ℤ
 partner_named m l p t = m.partner l.operation.kind l.operation.modes p.0 p.1 (range_at t l.y)
-
--- the choice of y is free but for this: some rank of y's shown range that makes an allowed triple with x and z, none exactly if there is none
-abbrev pub Partnered : Meaning → Line → ℤ × ℤ → Table → Type 0
-Partnered m l p t = SomeOf (range_at t l.y) (λ y. m.allowed l.operation.kind l.operation.modes p.0 y p.1) (partner_named m l p t)
 
 abbrev pub partner_of : Meaning → Option Line → Result (ℤ × ℤ) ℕ → Table → Result (Option ℕ) ℕ
 partner_of m None p t = Err 7

@@ -13,7 +13,7 @@ use crate::places::{Place, Places};
 use crate::registers::Register;
 use crate::sheet::{Look, Sheet};
 use crate::table::{Outcome, State, Table};
-use crate::{MOST_STEPS, REGISTERS};
+use crate::{MOST_STEPS, PLACES, REGISTERS};
 use catalogue::interface::Catalogue;
 use catalogue::types::{Range, Refusal};
 
@@ -57,6 +57,7 @@ impl<C: Catalogue> Sheet<C> {
     /// A sheet with no lines, and limits from the least to the greatest reading.
     pub fn new(catalogue: C) -> Self
         ensures table { result.table ≡ new_table (C.meaning catalogue) }
+        ensures sizes { (REGISTERS ≡ 32) × (PLACES ≡ 64) × (MOST_STEPS ≡ 65535) }
         ensures catalogue { result.catalogue ≡ catalogue }
     {
         let table = Table::new(C::readings());

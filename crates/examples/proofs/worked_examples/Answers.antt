@@ -1,16 +1,17 @@
 -- Each worked example holds by computation, once the definitions named here are opened.
 use Rattle.std.proofs.Common.{refl}
-use lib.Count.{count_trailing_zeros}
 use lib.Ieee.{size}
 use Rattle.catalogue.specs.First.{first, halved}
 use Rattle.catalogue.specs.Modes.{least_of, greatest_of}
 use Rattle.catalogue.specs.Search.{passes, edge}
 use Rattle.binary32.specs.Computed.{floor_of, rest_of, rounded}
 use Rattle.binary32.specs.Units.{units}
+use Rattle.sheet.specs.Boards.{places_naming, places_with_line}
+use Rattle.sheet.specs.Places.{lowest, none, places_where, tests, union, with_place, without}
 use Rattle.examples.proofs.worked_examples.Goals as goal
 
 pub returns : goal.returns
-unfolding first halved least_of greatest_of passes edge count_trailing_zeros size floor_of rest_of rounded units
+unfolding first halved least_of greatest_of passes edge size floor_of rest_of rounded units places_naming places_with_line lowest none places_where tests union with_place without
 returns c = record {
   list = record {
     least_positive = refl;
@@ -55,6 +56,23 @@ returns c = record {
     doubled_x = refl;
     doubled_z = refl;
     at_rest = refl;
+    both_due = refl;
+    due_again = refl;
+    due_no_more = refl;
+    open_still = refl;
+    three_steps = refl;
+    settled_then = refl;
+    tightened = refl;
+    loosened = refl;
+    loosened_range = refl;
+    struck = refl;
+    struck_range = refl;
+    void_sheet = refl;
+    void_limits = refl;
+    no_register_told = refl;
+    line_told = refl;
+    no_line_told = refl;
+    no_place_told = refl;
   };
   count = refl;
 }
