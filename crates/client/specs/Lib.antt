@@ -1,2 +1,2 @@
--- What the two small clients do, in the terms of the sheet's calls.
+-- What the small clients do, in the terms of the sheet's calls.
 pub mod Clients

@@ -4,25 +4,43 @@
 
 ghost use Rattle.std.specs.Prelude.{◌≡◌};
 ghost use Rattle.catalogue.specs.Refusals.{numbered};
-ghost use Rattle.client.specs.Clients.{peeked, stepped};
+ghost use Rattle.client.specs.Clients.{either_asked, either_table, peeked, stepped};
 ghost use Rattle.counters.specs.Counters.{counter};
-ghost use Rattle.sheet.specs.Calls.{drawn_asked, drawn_table};
-ghost use Rattle.sheet.specs.Lines.{checked};
+ghost use Rattle.sheet.specs.Calls.{drawn_asked, drawn_table, enter_answer};
+ghost use Rattle.sheet.specs.Lines.{checked_line};
 ghost use Rattle.sheet.specs.Rules.{new_table};
 
 use catalogue::interface::Catalogue;
 use catalogue::types::{Range, Refusal};
 use counters::counter::Counter;
-// `CheckedLine` is for the texts of `refused/`, which are put behind this file one at a time.
 use sheet::lines::{CheckedLine, DrawnLine};
 use sheet::sheet::Sheet;
 
-/// Has a drawn line checked, and enters it.
+/// Has a drawn line checked, and enters the checked line.
 pub fn tie(sheet: &mut Sheet<Counter>, place: u32, line: DrawnLine) -> Result<(), Refusal>
-    ensures answer { numbered result ≡ drawn_asked place (checked line) sheet.old.table }
-    ensures table { sheet.new.table ≡ drawn_table counter place (checked line) sheet.old.table }
+    ensures answer { numbered result ≡ drawn_asked place (checked_line line) sheet.old.table }
+    ensures table { sheet.new.table ≡ drawn_table counter place (checked_line line) sheet.old.table }
 {
-    sheet.tie(place, line)
+    let checked = line.check()?;
+    sheet
+        .enter(place, checked)
+        .map_err(|(refusal, _line)| refusal)
+}
+
+/// Enters a checked line at a place or, where that is refused, at a second one: the refusal hands the line back.
+pub fn enter_at_either(
+    sheet: &mut Sheet<Counter>,
+    first: u32,
+    second: u32,
+    line: CheckedLine,
+) -> Result<(), (Refusal, CheckedLine)>
+    ensures answer { enter_answer result ≡ either_asked first second line sheet.old.table }
+    ensures table { sheet.new.table ≡ either_table counter first second line sheet.old.table }
+{
+    match sheet.enter(first, line) {
+        Ok(()) => Ok(()),
+        Err((_refusal, line)) => sheet.enter(second, line),
+    }
 }
 
 /// Looks at a register, and once the look has ended makes one step.
@@ -36,8 +54,8 @@ pub fn peek_and_step(sheet: &mut Sheet<Counter>, register: u32) -> Result<Range,
     Ok(range)
 }
 
-/// Two sheets change places: each still has its own history.
-pub fn exchanged<C: Catalogue>(a: &mut Sheet<C>, b: &mut Sheet<C>)
+/// Two sheets change places: each keeps its own history.
+pub fn exchange<C: Catalogue>(a: &mut Sheet<C>, b: &mut Sheet<C>)
     ensures one { a.new ≡ b.old }
     ensures other { b.new ≡ a.old }
 {
@@ -45,14 +63,14 @@ pub fn exchanged<C: Catalogue>(a: &mut Sheet<C>, b: &mut Sheet<C>)
 }
 
 /// A new sheet in place of an old one.
-pub fn renewed<C: Catalogue + Drop>(sheet: &mut Sheet<C>, catalogue: C)
+pub fn renew<C: Catalogue + Drop>(sheet: &mut Sheet<C>, catalogue: C)
     ensures { sheet.new.table ≡ new_table (C.meaning catalogue) }
 {
     *sheet = Sheet::new(catalogue);
 }
 
 /// A sheet taken out, with a new one in its place.
-pub fn taken<C: Catalogue>(sheet: &mut Sheet<C>, catalogue: C) -> Sheet<C>
+pub fn take<C: Catalogue>(sheet: &mut Sheet<C>, catalogue: C) -> Sheet<C>
     ensures { result ≡ sheet.old }
 {
     std::mem::replace(sheet, Sheet::new(catalogue))

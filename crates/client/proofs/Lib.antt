@@ -1,0 +1,2 @@
+-- A line that one place refuses (Entering).
+pub mod Entering
