@@ -7,22 +7,26 @@ set -eu
 cd "$(dirname "$0")/.."
 find crates/*/src -type f -exec awk '
     function line_at(spot) { return gsub(/\n/, "&", text) - gsub(/\n/, "&", rest) + gsub(/\n/, "&", spot) }
-    function found(pattern, what,   spot) {
+    function found(pattern, what, unless,   spot) {
         rest = text
         while (match(rest, pattern)) {
             spot = substr(rest, 1, RSTART)
-            printf "%s:%d: %s\n", file, line_at(spot), what
-            bad = 1
+            if (unless == "" || substr(rest, RSTART + RLENGTH) !~ unless) {
+                printf "%s:%d: %s\n", file, line_at(spot), what
+                bad = 1
+            }
             rest = substr(rest, RSTART + RLENGTH)
         }
     }
     function look() {
-        found(edge "impl" edge "([^{;]*" edge ")?" named "(<[^{;]*>)?[ \n]+for" edge, "an impl of what must be derived")
-        found(edge named "[ \n]+as" edge, "another name for what must be derived")
-        found(edge "(forget|leak|into_raw|ManuallyDrop)" edge, "memory that may not be given back")
+        found(edge "impl" edge "([^{;]*" edge ")?" named "(<[^{;]*>)?[ \n]+for" edge, "an impl of what must be derived", told)
+        found(edge named "[ \n]+as" edge, "another name for what must be derived", "")
+        found(edge "(forget|leak|into_raw|ManuallyDrop)" edge, "memory that may not be given back", "")
     }
     BEGIN {
         edge = "[^A-Za-z0-9_]"
+        # a debug text that a contract tells
+        told = "^[^{]*[{][ \n]*ghost debug_output = "
         named = "(PartialEq|Eq|PartialOrd|Ord|Hash|Clone|Copy|Debug)"
     }
     FNR == 1 { if (file) look(); file = FILENAME; text = "\n" }
