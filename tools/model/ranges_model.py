@@ -377,6 +377,23 @@ class Sheet:
         y = partner(self.catalogue, line.kind, line.modes, x, self.ranges[line.y], z)
         return None if y is None else self.catalogue.pattern_of(y)
 
+    # Reading back: no command of a script does.
+
+    def limits_told(self, register):
+        if register >= REGISTERS:
+            raise Refused(1)
+        return tuple(self.catalogue.pattern_of(rank) for rank in self.limits[register])
+
+    def line_told(self, place):
+        if place >= PLACES:
+            raise Refused(7)
+        return self.lines.get(place)
+
+    def shows_same(self, other):
+        if self.void or other.void:
+            return self.void and other.void
+        return (self.at_rest(), self.ranges) == (other.at_rest(), other.ranges)
+
 
 # -------------------------------------------------------------- commands
 # Each takes the sheet and its words, already read, and answers a text.

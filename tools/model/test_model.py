@@ -554,6 +554,103 @@ class Settling(unittest.TestCase):
                         self.assertIn(assignment[r], ranks(ends[0][r]))
 
 
+class Words(unittest.TestCase):
+    """The rules of docs/SHEET.md once more, as sentences about a sheet before and after."""
+
+    def test_what_becomes_due(self):
+        chance = random.Random(6)
+        for _ in range(400):
+            top, registers = 30, 5
+            limits = {r: tuple(sorted((chance.randint(0, top), chance.randint(0, top)))) for r in range(registers)}
+            lines = [(chance.choice(KINDS), 1) + tuple(chance.randrange(registers) for _ in "xyz")
+                     for _ in range(chance.randint(1, 5))]
+            sheet = sheet_with(limits, lines, top)
+            while not sheet.at_rest():
+                before = copy.deepcopy(sheet)
+                sheet.step()
+                taken = min(before.due)
+                changed = {r for r in range(32) if sheet.ranges[r] != before.ranges[r]}
+                if sheet.void:
+                    self.assertEqual(sheet.due, set())
+                else:
+                    self.assertEqual(sheet.due, before.due - {taken} | {
+                        place for place, line in sheet.lines.items() if changed & {line.x, line.y, line.z}})
+                self.assertEqual((sheet.limits, sorted(sheet.lines)), (before.limits, sorted(before.lines)))
+            register = chance.randrange(registers)
+            low, high = sorted((chance.randint(0, top), chance.randint(0, top)))
+            before = copy.deepcopy(sheet)
+            sheet.limit(register, low, high)
+            old = before.limits[register]
+            if not (old[0] <= low and high <= old[1]):
+                self.assertEqual((sheet.ranges, sheet.due), (sheet.limits, set(sheet.lines)))
+            elif before.void:
+                self.assertTrue(sheet.void)
+                self.assertEqual(sheet.due, before.due)
+            elif not sheet.void:
+                naming = {place for place, line in sheet.lines.items() if register in (line.x, line.y, line.z)}
+                heard = naming if sheet.ranges[register] != before.ranges[register] else set()
+                self.assertEqual(sheet.due, before.due | heard)
+
+
+class ReadBack(unittest.TestCase):
+    def test_limits_and_lines(self):
+        sheet = sheet_with({0: (5, 9), 1: (2, 7)}, [(PEAK, 1, 0, 1, 1)])
+        sheet.settle(9)
+        self.assertEqual(sheet.ranges[:2], [(5, 7), (5, 7)])
+        self.assertEqual((sheet.limits_told(0), sheet.limits_told(1)), ((5, 9), (2, 7)))
+        line = sheet.line_told(0)
+        self.assertEqual((line.kind, line.modes, line.x, line.y, line.z), (PEAK, 1, 0, 1, 1))
+        self.assertIsNone(sheet.line_told(63))
+        for call, number, refusal in ((sheet.limits_told, 32, 1), (sheet.line_told, 64, 7)):
+            with self.assertRaises(Refused) as refused:
+                call(number)
+            self.assertEqual(refused.exception.args, (refusal,))
+
+    def test_a_void_sheet_tells_its_limits(self):
+        sheet = sheet_with({0: (1, 1)}, [(SUM, 1, 0, 0, 0)])
+        self.assertEqual(sheet.settle(9), ("void", 1))
+        self.assertEqual(sheet.limits_told(0), (1, 1))
+
+    def test_what_is_read_back_makes_the_same_sheet(self):
+        """After every script, a new sheet with the limits and lines that are read back shows the same at rest."""
+        chance = random.Random(7)
+        for _ in range(300):
+            top = 30
+            sheet = sheet_with({}, [], top)
+            for _ in range(40):
+                try:
+                    what = chance.randrange(4)
+                    if what == 0:
+                        sheet.limit(chance.randrange(6), chance.randint(0, top), chance.randint(0, top))
+                    elif what == 1:
+                        sheet.enter(chance.randrange(8), model.check(
+                            chance.choice(KINDS), 1, *(chance.randrange(6) for _ in "xyz")))
+                    elif what == 2:
+                        sheet.strike(chance.randrange(8))
+                    else:
+                        sheet.settle(chance.randint(1, 6))
+                except Refused:
+                    pass
+            new = sheet_with({}, [], top)
+            for register in range(32):
+                new.limit(register, *sheet.limits_told(register))
+            for place in range(64):
+                line = sheet.line_told(place)
+                if line is not None:
+                    new.enter(63 - place, model.check(line.kind, line.modes, line.x, line.y, line.z))
+            sheet.settle(65535)
+            new.settle(65535)
+            self.assertTrue(sheet.shows_same(new))
+
+    def test_unlike_sheets(self):
+        one, other = sheet_with({}, []), sheet_with({31: (0, 1)}, [])
+        void = sheet_with({0: (1, 1)}, [(SUM, 1, 0, 0, 0)])
+        void.settle(9)
+        self.assertFalse(one.shows_same(other))
+        self.assertFalse(one.shows_same(void))
+        self.assertTrue(void.shows_same(void))
+
+
 class Scripts(unittest.TestCase):
     def answers(self, data, expected):
         self.assertEqual(ranges(data), expected)
