@@ -1,2 +1,2 @@
--- Lemmas for the proof of the display of an answer: a pattern as its eight digits (Patterns).
-pub mod Patterns
+-- Lemmas for the proof of the text of an answer: how long a number is (Lengths).
+pub mod Lengths
