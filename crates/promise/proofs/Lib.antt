@@ -11,3 +11,4 @@ pub mod Alone
 pub mod Declining
 pub mod Promised
 pub mod Comparing
+pub mod Showing

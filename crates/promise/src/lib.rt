@@ -2,10 +2,10 @@
 
 #![tactic(auto)]
 
-ghost use Rattle.std.specs.Prelude.{◌≡◌, ◌↔◌, IsTrue};
+ghost use Rattle.std.specs.Prelude.{◌≡◌, ◌↔◌, IfOk, IsTrue};
 ghost use Rattle.promise.specs.Compared.{SameAtRest, ShowSame};
 ghost use Rattle.promise.specs.Promise.{Consequences, Promise, ShowsOfSome};
-ghost use Rattle.promise.specs.Shown.{show_answer, show_asked};
+ghost use Rattle.promise.specs.Shown.{IsShown, show_answer, show_asked};
 
 use catalogue::interface::Catalogue;
 use catalogue::types::Refusal;
@@ -36,6 +36,7 @@ fn look_at<C: Catalogue>(sheet: &Sheet<C>, register: u32) -> Result<Shown, Refus
 /// What a sheet shows of a register. Whatever calls led to the sheet, it shows what the promise says.
 pub fn show<C: Catalogue>(sheet: &Sheet<C>, register: u32) -> Result<Shown, Refusal>
     ensures answer { show_answer result ≡ show_asked (C.meaning sheet.now.catalogue) register sheet.now.table }
+    ensures words { IfOk result (λ shown. IsShown (C.meaning sheet.now.catalogue) register shown sheet.now.table) }
     ensures shows { ∥ ShowsOfSome (C.meaning sheet.now.catalogue) sheet.now.table ∥₁ }
     ensures promise { Promise (C.meaning sheet.now.catalogue) }
     ensures consequences { Consequences (C.meaning sheet.now.catalogue) }

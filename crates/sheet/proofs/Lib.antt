@@ -10,3 +10,4 @@ pub mod Recounts
 pub mod Settles
 pub mod Reaching
 pub mod Partnering
+pub mod ReadingBack

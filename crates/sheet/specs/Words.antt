@@ -6,11 +6,13 @@ use Rattle.catalogue.specs.declared.types.Triple.{Triple}
 use Rattle.catalogue.specs.Meanings.{Meaning}
 use Rattle.catalogue.specs.Ranges.{Holds, Proper, holds_all, meet}
 use Rattle.sheet.specs.declared.lines.Line.{Line}
+use Rattle.sheet.specs.declared.table.Outcome.{Outcome}
+use Rattle.sheet.specs.declared.table.Outcome.TheVariants as outcome
 use Rattle.sheet.specs.declared.table.State.TheVariants.{Settled, Open, Void}
 use Rattle.sheet.specs.declared.table.Table.{Table}
 use Rattle.sheet.specs.declared.TheConstants.{PLACES, REGISTERS}
 use Rattle.sheet.specs.Places.{Lowest, has, is_none}
-use Rattle.sheet.specs.Rules.{limits_at, line_at, range_at, ranges_of, stands}
+use Rattle.sheet.specs.Rules.{limits_at, line_at, range_at, stands}
 
 -- three ranks make an allowed triple of a line
 abbrev pub Allowed : Meaning → Line → ℤ → ℤ → ℤ → Type 0
@@ -73,6 +75,10 @@ pub record Narrows (l : Line) (s : Triple) (place : ℕ) (t u : Table) : Type 0 
 abbrev pub Takes : Line → Option Triple → ℕ → Table → Table → Type 0
 Takes l o place t u = (NothingLeft l o t × IsVoid u) ⊎ ((s : Triple) × ((o ≡ Some s) × ((NothingLeft l o t → ⊥) × Narrows l s place t u)))
 
+-- a line's three ranges, as they are
+abbrev pub ranges_as_they_are : Line → Table → Triple
+ranges_as_they_are l t = record { x = range_at t l.x; y = range_at t l.y; z = range_at t l.z }
+
 -- a step takes the line at the lowest due place, and narrows it from the ranges as they are; limits and lines stay
 pub record IsStep (m : Meaning) (t u : Table) : Type 0 where
   pub open_before : t.state ≡ Open
@@ -82,7 +88,7 @@ pub record IsStep (m : Meaning) (t u : Table) : Type 0 where
   pub there : line_at t place ≡ Some line
   pub limits : u.limits ≡ t.limits
   pub lines : u.lines ≡ t.lines
-  pub takes : Takes line (m.narrowed line.operation.kind line.operation.modes (ranges_of line t)) place t u
+  pub takes : Takes line (m.narrowed line.operation.kind line.operation.modes (ranges_as_they_are line t)) place t u
 
 -- so many steps, one after another
 abbrev pub AreSteps : Meaning → ℕ → Table → Table → Type 0
@@ -94,6 +100,12 @@ pub record IsSettle (m : Meaning) (budget steps : ℕ) (t u : Table) : Type 0 wh
   pub within : steps ≤ budget
   pub made : AreSteps m steps t u
   pub spent : u.state ≡ Open → steps ≡ budget
+
+-- how a settle ended
+abbrev pub Ended : Outcome → Table → Type 0
+Ended outcome.Settled u = u.state ≡ Settled
+Ended outcome.Stopped u = u.state ≡ Open
+Ended outcome.Void u = u.state ≡ Void
 
 -- ---- a limit that is carried out: register r's limits become b
 

@@ -3,9 +3,9 @@ ghost use Rattle.catalogue.specs.declared.types.Range.{Range};
 ghost use Rattle.catalogue.specs.Refusals.{numbered};
 ghost use Rattle.sheet.specs.declared.lines.Line.{Line};
 ghost use Rattle.sheet.specs.Calls.{NamesLine, bad_budget, done, enter_answer, enter_asked, enter_table, in_patterns, is_settled, limit_asked, limit_table, limits_asked, limits_read, line_asked, look_answer, outcome_number, outcome_of, partner_asked, partner_named, pattern_or_none, ranks_read, settle_answer, settle_asked, settle_table, shown_range, strike_asked, strike_table};
-ghost use Rattle.sheet.specs.Histories.{Call, after, called, enter, limit, line_of, settle, strike};
+ghost use Rattle.sheet.specs.Histories.{Call, after, called, enter, limit, limits_of, line_of, settle, strike};
 ghost use Rattle.sheet.specs.Rules.{new_table, table_of};
-ghost use Rattle.sheet.specs.Words.{IsEnter, IsLimit, IsPartnerAnswer, IsSettle, IsStrike};
+ghost use Rattle.sheet.specs.Words.{Ended, IsEnter, IsLimit, IsPartnerAnswer, IsSettle, IsStrike};
 
 use crate::board::Board;
 use crate::lines::{CheckedLine, Line};
@@ -133,7 +133,8 @@ impl<C: Catalogue> Sheet<C> {
 
     /// A register's limits by the patterns of their low and their high end, on a void sheet too.
     pub fn limits(&self, register: u32) -> Result<(u32, u32), Refusal>
-        ensures { numbered result ≡ in_patterns (C.meaning self.now.catalogue) (limits_asked register self.now.table) }
+        ensures answer { numbered result ≡ in_patterns (C.meaning self.now.catalogue) (limits_asked register self.now.table) }
+        ensures words { (h : List Call) → self.now.table ≡ after (C.meaning self.now.catalogue) h → IfOk result (λ told. told ≡ ((C.meaning self.now.catalogue).writes (limits_of (C.meaning self.now.catalogue) h register).low, (C.meaning self.now.catalogue).writes (limits_of (C.meaning self.now.catalogue) h register).high)) }
     {
         let register = Register::try_from(register)?;
         Ok(self.patterns(self.table.limits[register.index()]))
@@ -141,7 +142,8 @@ impl<C: Catalogue> Sheet<C> {
 
     /// The line that stands at a place, or none.
     pub fn line(&self, place: u32) -> Result<Option<Line>, Refusal>
-        ensures { numbered result ≡ line_asked place self.now.table }
+        ensures answer { numbered result ≡ line_asked place self.now.table }
+        ensures words { (h : List Call) → self.now.table ≡ after (C.meaning self.now.catalogue) h → IfOk result (λ told. told ≡ line_of h place) }
     {
         let place = Place::try_from(place)?;
         Ok(self.table.lines.line_at(place).map(|checked| checked.line))
@@ -181,6 +183,7 @@ impl<C: Catalogue> Sheet<C> {
         ensures answer { settle_answer result ≡ settle_asked (C.meaning self.old.catalogue) budget self.old.table }
         ensures table { self.new.table ≡ settle_table (C.meaning self.old.catalogue) budget self.old.table }
         ensures call { self.new.table ≡ called (C.meaning self.old.catalogue) (settle budget) self.old.table }
+        ensures outcome { IfOk result (λ done. Ended done.0 self.new.table) }
         ensures words { IfOk result (λ done. IsSettle (C.meaning self.old.catalogue) budget done.1 self.old.table self.new.table) }
         ensures catalogue { self.new.catalogue ≡ self.old.catalogue }
     {

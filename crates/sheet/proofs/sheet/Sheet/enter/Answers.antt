@@ -1,4 +1,4 @@
-use Rattle.std.proofs.Common.{rules, ◌≡◌, ◌<◌, ltb, sym, ap, ◌∙◌, subst}
+use Rattle.std.proofs.Common.{rules, ◌≡◌, ◌<◌, ltb, sym, subst}
 use Rattle.std.proofs.lemmas.Bool.{ltb-true, not-false}
 use Rattle.sheet.specs.Rules.{table_after_enter}
 use Rattle.sheet.specs.Words.{IsEnter}
@@ -23,4 +23,5 @@ returns-clause-words g c =
     let l = c.args.line.line in
     let named = c.in-Ok.ensures in
     let lt : n < 64 = ltb-true n 64 (not-false (ltb n 64) named.1) in
-    subst (IsEnter n l s.table) (sym (c.enter.ensures ∙ ap (λ k. table_after_enter m k l s.table) named.0)) (enter_words m n l s.table lt)
+    let at_n = subst (λ k. c.enter.new.self ≡ table_after_enter m k l s.table) named.0 c.enter.ensures in
+    subst (IsEnter n l s.table) (sym at_n) (enter_words m n l s.table lt)
