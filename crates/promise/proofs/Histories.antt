@@ -1,21 +1,20 @@
 -- After every history the table is sound.
-use Rattle.std.proofs.Common.{◌≡◌, ℕ, zero, suc, ◌<◌, false, ◌||◌, ltb, List, [], ◌∷◌, get_or, replicate, ℤ, ◌≤ℤ◌, Some, None, Ok, Err, Option, Result, sym, refl, ◌∙◌, subst, ⊎_elim, arith}
-use lib.Signed.{lt_z}
+use Rattle.std.proofs.Common.{◌≡◌, ℕ, zero, suc, ◌<◌, false, ◌||◌, ltb, List, [], ◌∷◌, get_or, replicate, Ok, Err, Result, sym, refl, ◌∙◌, subst}
 use Rattle.std.proofs.lemmas.List.{get_or-replicate}
-use Rattle.std.proofs.lemmas.Int.{ints}
-use Rattle.std.proofs.lemmas.Bool.{both_ways, cases_Bool, cond-true, cond-false, cond_both, ltb-true, not-false, or_parts}
+use Rattle.std.proofs.lemmas.Bool.{both_ways, cond_both, ltb-true, not-false, or_parts}
 use Rattle.catalogue.specs.declared.types.Range.{Range}
 use Rattle.catalogue.specs.Meanings.{Meaning, Laws, all_readings}
 use Rattle.catalogue.specs.Ranges.{Within, Proper}
 use Rattle.sheet.specs.declared.lines.Line.{Line}
 use Rattle.sheet.specs.declared.table.Event.TheVariants.{Step}
 use Rattle.sheet.specs.declared.table.Table.{Table}
-use Rattle.sheet.specs.Calls.{bad_budget, limit_asked, limit_table, limits_read, line_table, no_line}
-use Rattle.sheet.specs.Numbers.{no_place, no_register}
+use Rattle.sheet.specs.Calls.{bad_budget, limit_asked, limit_table, line_table, no_line}
+use Rattle.sheet.specs.Numbers.{no_place}
 use Rattle.sheet.specs.Rules.{after_steps, at_rest, limits_at, line_at, new_table, no_range, reaction, settling, stands, table_after_enter, table_after_limit, table_after_strike}
 use Rattle.sheet.proofs.Boards.{no_lines, none_from}
 use Rattle.sheet.proofs.Kept.{Kept, kept_after, kept_step}
 use Rattle.sheet.proofs.Meets.{within_self}
+use Rattle.sheet.proofs.Recounts.{asked_words}
 use Rattle.sheet.proofs.Wordings.{enter_words, limit_words, reaction_words, strike_words}
 use Rattle.promise.specs.Histories.{Call, limit, enter, strike, settle, look, partner, passes_check, called, after}
 use Rattle.promise.proofs.Keeping.{enter_sound, limit_sound, step_sound, strike_sound}
@@ -46,24 +45,10 @@ module _ (m : Meaning) (laws : Laws m) where
     proper : Proper b
     readings : Within b (all_readings m)
 
-  read_right : (r low high : ℕ) → r < 32 → (l h : Option ℤ) → m.reads low ≡ l → m.reads high ≡ h → (b : Range) → limits_read l h ≡ Ok b → Right r b
-  read_right r low high lt None h el eh b e = absurd cc
-  read_right r low high lt (Some l) None el eh b e = absurd cc
-  read_right r low high lt (Some l) (Some h) el eh b e =
-      let made : Range = record { low = l; high = h } in
-      ⊎_elim
-      (λ d. let f = sym (cond-true (lt_z h l) (Err 3) (Ok made) d) ∙ e in absurd cc)
-      (λ d. let f = sym (cond-false (lt_z h l) (Err 3) (Ok made) d) ∙ e in
-      let same : made ≡ b = cc in
-      let p : l ≤ℤ h = grind (arith, ints) in
-      subst (Right r) same (record { register = lt; proper = p; readings = ((laws.reads low l el).0, (laws.reads high h eh).1) }))
-      (cases_Bool (lt_z h l))
-
   asked_right : (r low high : ℕ) (b : Range) → limit_asked m r low high ≡ Ok b → Right r b
-  asked_right r low high b e = ⊎_elim
-      (λ d. let f = sym (cond-true (no_register r) (Err 1) (limits_read (m.reads low) (m.reads high)) d) ∙ e in absurd cc)
-      (λ d. read_right r low high (ltb-true r 32 (not-false (ltb r 32) d)) (m.reads low) (m.reads high) refl refl b (sym (cond-false (no_register r) (Err 1) (limits_read (m.reads low) (m.reads high)) d) ∙ e))
-      (cases_Bool (no_register r))
+  asked_right r low high b e =
+      let a = asked_words m r low high b e in
+      record { register = a.register; proper = a.proper; readings = ((laws.reads low b.low a.reads_low).0, (laws.reads high b.high a.reads_high).1) }
 
   limits_set : (r : ℕ) (t : Table) → Sound m t → (a : Result Range ℕ) → ((b : Range) → a ≡ Ok b → Right r b) → Kept (limit_table m r a t) → Sound m (limit_table m r a t)
   limits_set r t sound (Err e) right kept = sound

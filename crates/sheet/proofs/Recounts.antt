@@ -1,9 +1,12 @@
 -- The limits and the lines of the table that a history leads to are those of the history.
-use Rattle.std.proofs.Common.{◌≡◌, ◌≢◌, ℕ, zero, suc, ◌<◌, Bool, true, false, cond, not, ◌&&◌, ◌||◌, eqb, ltb, List, [], ◌∷◌, length, get_or, set, is_some, Some, None, Ok, Err, Result, sym, refl, ap, ◌∙◌, subst, ⊎_elim, arith}
+use Rattle.std.proofs.Common.{◌≡◌, ◌≢◌, ◌≤ℤ◌, ℕ, ℤ, zero, suc, ◌<◌, Bool, true, false, cond, not, ◌&&◌, ◌||◌, eqb, ltb, List, [], ◌∷◌, length, get_or, set, is_some, Some, None, Option, Ok, Err, Result, sym, refl, ap, ◌∙◌, subst, ⊎_elim, arith}
+use lib.Signed.{lt_z}
+use Rattle.std.proofs.lemmas.Int.{ints}
 use Rattle.std.proofs.lemmas.List.{get_or-set_same, get_or-set_other, get_or-replicate, get_or_past}
 use Rattle.std.proofs.lemmas.Bool.{cases_Bool, cases_eq, cond-true, cond-false, cond_both, eq-eqb, ne_eqb, lt-ltb, ltb-true, ltb-false, not-false, not-true, or_cases, or_parts, and_left, and_right}
 use Rattle.catalogue.specs.declared.types.Range.{Range}
 use Rattle.catalogue.specs.Meanings.{Meaning, all_readings}
+use Rattle.catalogue.specs.Ranges.{Proper}
 use Rattle.sheet.specs.declared.table.Table.{Table}
 use Rattle.sheet.specs.Boards.{line_in}
 use Rattle.sheet.specs.Calls.{bad_budget, limit_asked, limit_table, limits_read, line_table, no_line}
@@ -15,11 +18,30 @@ use Rattle.sheet.proofs.Boards.{no_lines, none_from}
 use Rattle.sheet.proofs.Kept.{Kept, kept_after}
 use Rattle.sheet.proofs.Wordings.{enter_words, limit_words, settle_words, strike_words}
 
--- a limit that is carried out is one of a register that there is
-pub asked_register : (m : Meaning) (r low high : ℕ) (b : Range) → limit_asked m r low high ≡ Ok b → r < 32
-asked_register m r low high b e = ⊎_elim
+-- a limit that is carried out is one of a register that there is, from one reading to another that is not below it
+pub record Asked (m : Meaning) (r low high : ℕ) (b : Range) : Type 0 where
+  pub register : r < 32
+  pub reads_low : m.reads low ≡ Some b.low
+  pub reads_high : m.reads high ≡ Some b.high
+  pub proper : Proper b
+
+read_asked : (m : Meaning) (r low high : ℕ) → r < 32 → (l h : Option ℤ) → m.reads low ≡ l → m.reads high ≡ h → (b : Range) → limits_read l h ≡ Ok b → Asked m r low high b
+read_asked m r low high lt None h el eh b e = absurd cc
+read_asked m r low high lt (Some l) None el eh b e = absurd cc
+read_asked m r low high lt (Some l) (Some h) el eh b e =
+    let made : Range = record { low = l; high = h } in
+    ⊎_elim
+    (λ d. let f = sym (cond-true (lt_z h l) (Err 3) (Ok made) d) ∙ e in absurd cc)
+    (λ d. let f = sym (cond-false (lt_z h l) (Err 3) (Ok made) d) ∙ e in
+    let same : made ≡ b = cc in
+    let p : l ≤ℤ h = grind (arith, ints) in
+    subst (Asked m r low high) same (record { register = lt; reads_low = el; reads_high = eh; proper = p }))
+    (cases_Bool (lt_z h l))
+
+pub asked_words : (m : Meaning) (r low high : ℕ) (b : Range) → limit_asked m r low high ≡ Ok b → Asked m r low high b
+asked_words m r low high b e = ⊎_elim
     (λ d. let h = sym (cond-true (no_register r) (Err 1) (limits_read (m.reads low) (m.reads high)) d) ∙ e in absurd cc)
-    (λ d. ltb-true r 32 (not-false (ltb r 32) d))
+    (λ d. read_asked m r low high (ltb-true r 32 (not-false (ltb r 32) d)) (m.reads low) (m.reads high) refl refl b (sym (cond-false (no_register r) (Err 1) (limits_read (m.reads low) (m.reads high)) d) ∙ e))
     (cases_Bool (no_register r))
 
 module _ (m : Meaning) where
@@ -35,7 +57,7 @@ module _ (m : Meaning) where
   line_far t kept n h = let far = ltb-false n 64 (not-true (ltb n 64) h) in get_or_past t.lines n None (omega (arith, kept.formed.places))
 
   limit_line : (r low high : ℕ) (t : Table) → Kept t → (n : ℕ) → (q : Result Range ℕ) → limit_asked m r low high ≡ q → line_at (limit_table m r q t) n ≡ line_at t n
-  limit_line r low high t kept n (Ok b) e = ap (λ ls. line_in ls n) (limit_words m r b t (asked_register m r low high b e) kept).lines
+  limit_line r low high t kept n (Ok b) e = ap (λ ls. line_in ls n) (limit_words m r b t ((asked_words m r low high b e).register) kept).lines
   limit_line r low high t kept n (Err e) i = refl
 
   pub line_after : (h : List Call) (n : ℕ) → line_at (after m h) n ≡ line_of h n
@@ -88,9 +110,9 @@ module _ (m : Meaning) where
   -- ---- limits
   limit_limits : (q low high : ℕ) (t : Table) → Kept t → (r : ℕ) (old : Range) → limits_at t r ≡ old → (a : Result Range ℕ) → limit_asked m q low high ≡ a → limits_at (limit_table m q a t) r ≡ limits_got (eqb q r) a old
   limit_limits q low high t kept r old same (Ok b) e =
-      ap (λ ls. get_or ls r no_range) (limit_words m q b t (asked_register m q low high b e) kept).limits ∙ ⊎_elim
+      ap (λ ls. get_or ls r no_range) (limit_words m q b t ((asked_words m q low high b e).register) kept).limits ∙ ⊎_elim
       (λ (i : q ≡ r). subst (λ j. get_or (set t.limits q b) j no_range ≡ limits_got (eqb q j) (Ok b) old) i
-      (get_or-set_same t.limits q b no_range (let lq = asked_register m q low high b e in omega (arith, kept.formed.limits)) ∙ ap (λ c. limits_got c (Ok b) old) (sym (eq-eqb q q refl))))
+      (get_or-set_same t.limits q b no_range (let lq = (asked_words m q low high b e).register in omega (arith, kept.formed.limits)) ∙ ap (λ c. limits_got c (Ok b) old) (sym (eq-eqb q q refl))))
       (λ (ne : q ≢ r). get_or-set_other t.limits q r b no_range (λ e. ne (sym e)) ∙ same ∙ ap (λ c. limits_got c (Ok b) old) (sym (ne_eqb q r ne)))
       (cases_eq q r)
   limit_limits q low high t kept r old same (Err e) i = same ∙ declined (eqb q r) old

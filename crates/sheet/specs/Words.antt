@@ -127,6 +127,15 @@ pub record IsLimit (r : ℕ) (b : Range) (t u : Table) : Type 0 where
   pub inside : holds_all (limits_at t r) b ≡ true → Tightens r b t u
   pub outside : holds_all (limits_at t r) b ≡ false → AtLimits u
 
+-- a limit from one pattern to another: both are read, low is not above high, and the range between them becomes the limits
+pub record SetsLimits (m : Meaning) (r low high : ℕ) (t u : Table) : Type 0 where
+  pub limits : Range
+  pub register : r < REGISTERS
+  pub reads_low : m.reads low ≡ Some limits.low
+  pub reads_high : m.reads high ≡ Some limits.high
+  pub proper : Proper limits
+  pub made : IsLimit r limits t u
+
 -- ---- an enter that is carried out: the line l stands at n, and is due unless the table is void
 
 pub record IsEnter (n : ℕ) (l : Line) (t u : Table) : Type 0 where

@@ -1,11 +1,10 @@
-ghost use Rattle.std.specs.Prelude.{◌≡◌, ◌≢◌, ◌↔◌, ℤ, IfOk, IsTrue, List, OnOk};
-ghost use Rattle.catalogue.specs.declared.types.Range.{Range};
+ghost use Rattle.std.specs.Prelude.{◌≡◌, ◌≢◌, ◌↔◌, ℤ, IfOk, IsTrue, List, OnErr, OnOk};
 ghost use Rattle.catalogue.specs.Refusals.{numbered};
 ghost use Rattle.sheet.specs.declared.lines.Line.{Line};
 ghost use Rattle.sheet.specs.Calls.{NamesLine, bad_budget, done, enter_answer, enter_asked, enter_table, in_patterns, is_settled, limit_asked, limit_table, limits_asked, limits_read, line_asked, look_answer, outcome_number, outcome_of, partner_asked, partner_named, pattern_or_none, ranks_read, settle_answer, settle_asked, settle_table, shown_range, strike_asked, strike_table};
 ghost use Rattle.sheet.specs.Histories.{Call, after, called, enter, limit, limits_of, line_of, settle, strike};
 ghost use Rattle.sheet.specs.Rules.{new_table, table_of};
-ghost use Rattle.sheet.specs.Words.{Ended, IsEnter, IsLimit, IsPartnerAnswer, IsSettle, IsStrike};
+ghost use Rattle.sheet.specs.Words.{Ended, IsEnter, IsPartnerAnswer, IsSettle, IsStrike, SetsLimits};
 
 use crate::board::Board;
 use crate::lines::{CheckedLine, Line};
@@ -80,7 +79,8 @@ impl<C: Catalogue> Sheet<C> {
         ensures answer { numbered result ≡ done (limit_asked (C.meaning self.old.catalogue) register low high) }
         ensures table { self.new.table ≡ limit_table (C.meaning self.old.catalogue) register (limit_asked (C.meaning self.old.catalogue) register low high) self.old.table }
         ensures call { self.new.table ≡ called (C.meaning self.old.catalogue) (limit register low high) self.old.table }
-        ensures words { (b : Range) → limit_asked (C.meaning self.old.catalogue) register low high ≡ Ok b → IsLimit register b self.old.table self.new.table }
+        ensures refused { OnErr result (self.new.table ≡ self.old.table) }
+        ensures words { OnOk result (SetsLimits (C.meaning self.old.catalogue) register low high self.old.table self.new.table) }
         ensures catalogue { self.new.catalogue ≡ self.old.catalogue }
     {
         let register = Register::try_from(register)?;
@@ -94,6 +94,7 @@ impl<C: Catalogue> Sheet<C> {
         ensures answer { enter_answer result ≡ enter_asked place line self.old.table }
         ensures table { self.new.table ≡ enter_table (C.meaning self.old.catalogue) place line self.old.table }
         ensures call { self.new.table ≡ called (C.meaning self.old.catalogue) (enter place line.line) self.old.table }
+        ensures refused { OnErr result (self.new.table ≡ self.old.table) }
         ensures words { OnOk result (IsEnter place line.line self.old.table self.new.table) }
         ensures catalogue { self.new.catalogue ≡ self.old.catalogue }
     {
@@ -123,6 +124,7 @@ impl<C: Catalogue> Sheet<C> {
         ensures answer { numbered result ≡ strike_asked place self.old.table }
         ensures table { self.new.table ≡ strike_table (C.meaning self.old.catalogue) place self.old.table }
         ensures call { self.new.table ≡ called (C.meaning self.old.catalogue) (strike place) self.old.table }
+        ensures refused { OnErr result (self.new.table ≡ self.old.table) }
         ensures words { OnOk result (IsStrike place self.old.table self.new.table) }
         ensures catalogue { self.new.catalogue ≡ self.old.catalogue }
     {
@@ -183,6 +185,7 @@ impl<C: Catalogue> Sheet<C> {
         ensures answer { settle_answer result ≡ settle_asked (C.meaning self.old.catalogue) budget self.old.table }
         ensures table { self.new.table ≡ settle_table (C.meaning self.old.catalogue) budget self.old.table }
         ensures call { self.new.table ≡ called (C.meaning self.old.catalogue) (settle budget) self.old.table }
+        ensures refused { OnErr result (self.new.table ≡ self.old.table) }
         ensures outcome { IfOk result (λ done. Ended done.0 self.new.table) }
         ensures words { IfOk result (λ done. IsSettle (C.meaning self.old.catalogue) budget done.1 self.old.table self.new.table) }
         ensures catalogue { self.new.catalogue ≡ self.old.catalogue }
@@ -223,7 +226,8 @@ impl<C: Catalogue> Look<'_, C> {
 
     /// Whether the sheet is settled.
     pub fn is_settled(&self) -> bool
-        ensures { result ≡ is_settled self.now.sheet.now.table.state }
+        ensures value { result ≡ is_settled self.now.sheet.now.table.state }
+        ensures words { IsTrue result ↔ (self.now.sheet.now.table.state ≡ State.Settled) }
     {
         matches!(self.sheet.table.state, State::Settled)
     }

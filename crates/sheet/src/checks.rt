@@ -1,4 +1,5 @@
-ghost use Rattle.std.specs.Prelude.{◌≡◌};
+ghost use Rattle.std.specs.Prelude.{◌≡◌, IfOk};
+ghost use Rattle.catalogue.specs.Numbers.{kind_number};
 ghost use Rattle.sheet.specs.Lines.{check_answer, checked_line, drawn_of, row_of};
 
 use crate::lines::{CheckedLine, DrawnLine, Line};
@@ -9,7 +10,8 @@ use catalogue::types::{Kind, Modes, Operation, Refusal};
 impl DrawnLine {
     /// The checked line, or why it is declined: its kind, then its mode set, then its registers.
     pub fn check(self) -> Result<CheckedLine, Refusal>
-        ensures { check_answer result ≡ checked_line self }
+        ensures answer { check_answer result ≡ checked_line self }
+        ensures words { IfOk result (λ checked. (checked.line.x ≡ self.x) × (checked.line.y ≡ self.y) × (checked.line.z ≡ self.z) × (checked.line.operation.modes.bits ≡ self.modes) × (kind_number checked.line.operation.kind ≡ self.kind)) }
     {
         let operation = Operation {
             kind: Kind::try_from(self.kind)?,

@@ -16,7 +16,7 @@ returns-then-has c =
     let long = c.self.invariant.places in
     let there = line_there b.standing b.rows c.args.self.now n d c.self.view_is (omega arith) in
     ap line_answer c.ok.ensures.value ∙ answered c.check.result
-    ∙ ap line_or_none (c.check.ensures ∙ ap checked_line (c.from.ensures ∙ ap (λ i. drawn_of (get_or b.rows i d)) c.index.ensures.value))
+    ∙ ap line_or_none (c.check.ensures.answer ∙ ap checked_line (c.from.ensures ∙ ap (λ i. drawn_of (get_or b.rows i d)) c.index.ensures.value))
     ∙ ap (λ t. line_if t (get_or b.rows n d)) (sym stands) ∙ sym there
 
 pub returns-else-has : goal.returns-else-has

@@ -34,5 +34,5 @@ same_test false true h = absurd cc
 pub returns-then-is_settled : goal.returns-then-is_settled
 returns-then-is_settled g c =
     let d = pointwise_decides decides c.args.self.now.sheet.now.table.ranges c.args.other.now.sheet.now.table.ranges in
-    let settled = sym c.is_settled.ensures ∙ same_test _ _ c.if-is_settled.true ∙ c.is_settled-2.ensures in
+    let settled = sym c.is_settled.ensures.value ∙ same_test _ _ c.if-is_settled.true ∙ c.is_settled-2.ensures.value in
     ((λ t. (settled, d.0 (sym c.eq.ensures ∙ t))), λ p. c.eq.ensures ∙ d.1 p.1)
