@@ -1,12 +1,13 @@
 -- What a comparison tells, by how the two sheets ended, and that with the same limits and lines it tells no difference.
-use Rattle.std.proofs.Common.{◌≡◌, ◌≢◌, Bool, true, false, sym, refl, ap, ◌∙◌, inl, inr, ⊎_elim}
+use Rattle.std.proofs.Common.{◌≡◌, ◌≢◌, Bool, true, false, sym, refl, ap, ◌∙◌, inl, inr, ⊎_elim, get_or, subst}
 use Rattle.sheet.specs.declared.table.Outcome.{Outcome}
 use Rattle.sheet.specs.declared.table.Outcome.TheVariants as outcome
 use Rattle.sheet.specs.declared.table.State.{State}
 use Rattle.sheet.specs.declared.table.State.TheVariants.{Settled, Open, Void}
 use Rattle.sheet.specs.declared.table.Table.{Table}
 use Rattle.sheet.specs.Calls.{outcome_number, outcome_of}
-use Rattle.sheet.specs.Rules.{at_rest, limits_at, line_at}
+use Rattle.sheet.specs.Boards.{line_in}
+use Rattle.sheet.specs.Rules.{at_rest, limits_at, line_at, no_range}
 use Rattle.promise.specs.Compared.{SameAtRest, ShowSame}
 use Rattle.promise.specs.Promise.{SameLimits, SameLines}
 use Rattle.long_use.specs.Comparisons.{Tells, judged}
@@ -60,3 +61,11 @@ module _ (t u : Table) where
   never_different o p b h same rest limits lines e =
       let told = rw e at h in
       told.2 (same (rest (record { rests = told.0; rests_too = told.1; limits = limits; lines = lines })))
+
+-- tables that keep their limits, and their lines, keep them the same as each other's
+module _ (t u v w : Table) where
+  pub limits_still : v.limits ≡ t.limits → w.limits ≡ u.limits → SameLimits (limits_at t) (limits_at u) → SameLimits (limits_at v) (limits_at w)
+  limits_still e f same r lt = ap (λ ls. get_or ls r no_range) e ∙ same r lt ∙ sym (ap (λ ls. get_or ls r no_range) f)
+
+  pub lines_still : v.lines ≡ t.lines → w.lines ≡ u.lines → SameLines (line_at t) (line_at u) → SameLines (line_at v) (line_at w)
+  lines_still e f same = subst (λ ls. SameLines (λ n. line_in ls n) (line_at w)) (sym e) (subst (λ ls. SameLines (line_at t) (λ n. line_in ls n)) (sym f) same)

@@ -71,7 +71,7 @@ fn settle_on<C: Catalogue>(sheet: &mut Sheet<C>) -> Outcome
     }
 }
 
-/// Settles by a good many budgets, of which a sheet that comes to rest leaves the rest unspent: how it ended.
+/// Settles until rest, or until a good many budgets are spent: how it ended. A sheet at rest spends nothing.
 fn settle_out<C: Catalogue>(sheet: &mut Sheet<C>) -> Outcome
     ensures outcome { outcome_number result ≡ outcome_of sheet.new.table.state }
     ensures limits { sheet.new.table.limits ≡ sheet.old.table.limits }
@@ -122,6 +122,8 @@ pub fn compare<C: Catalogue>(used: &mut Sheet<C>, new: &mut Sheet<C>) -> Compare
     requires { C.meaning used.old.catalogue ≡ C.meaning new.old.catalogue }
     ensures tells { Tells result used.new.table new.new.table }
     ensures alike { SameLimits (limits_at used.old.table) (limits_at new.old.table) → SameLines (line_at used.old.table) (line_at new.old.table) → result ≢ Compared.Different }
+    ensures used_stays { (used.new.table.limits ≡ used.old.table.limits) × (used.new.table.lines ≡ used.old.table.lines) }
+    ensures new_stays { (new.new.table.limits ≡ new.old.table.limits) × (new.new.table.lines ≡ new.old.table.lines) }
     ensures catalogue { used.new.catalogue ≡ used.old.catalogue }
 {
     let used_ended = settle_out(used);
@@ -134,6 +136,9 @@ pub fn beside_new<C: Catalogue>(used: &mut Sheet<C>, catalogue: C) -> (Sheet<C>,
     requires { C.meaning used.old.catalogue ≡ C.meaning catalogue }
     ensures alike { result.1 ≢ Compared.Different }
     ensures tells { Tells result.1 used.new.table result.0.table }
+    ensures limits { SameLimits (limits_at used.new.table) (limits_at result.0.table) }
+    ensures lines { SameLines (line_at used.new.table) (line_at result.0.table) }
+    ensures used_stays { (used.new.table.limits ≡ used.old.table.limits) × (used.new.table.lines ≡ used.old.table.lines) }
     ensures catalogue { used.new.catalogue ≡ used.old.catalogue }
 {
     let mut new = renewed(used, catalogue);
