@@ -7,7 +7,10 @@
 
 mod renewal;
 
-ghost use Rattle.std.specs.Prelude.{◌≡◌, ◌≢◌, IfOk};
+ghost use Rattle.std.specs.Prelude.{◌≡◌, ◌≢◌, IfOk, OnOk};
+ghost use Rattle.sheet.specs.Calls.{drawn_table};
+ghost use Rattle.sheet.specs.Histories.{called, limit, strike};
+ghost use Rattle.sheet.specs.Lines.{checked_line};
 
 use binary32::binary32::Binary32;
 use catalogue::interface::Catalogue;
@@ -50,7 +53,8 @@ impl<C: Catalogue> Used<C> {
 
     /// Makes a limit, and notes it if it was carried out.
     fn limit(&mut self, register: u32, limits: Limits) -> Result<(), AllocError>
-        ensures { self.new.sheet.catalogue ≡ self.old.sheet.catalogue }
+        ensures call { self.new.sheet.table ≡ called (C.meaning self.old.sheet.catalogue) (limit register limits.low limits.high) self.old.sheet.table }
+        ensures catalogue { self.new.sheet.catalogue ≡ self.old.sheet.catalogue }
     {
         if self.sheet.limit(register, limits.low, limits.high).is_ok() {
             self.limits.insert(register, limits)?;
@@ -60,7 +64,8 @@ impl<C: Catalogue> Used<C> {
 
     /// Enters a line, and notes it if it was carried out.
     fn tie(&mut self, place: u32, line: DrawnLine) -> Result<(), AllocError>
-        ensures { self.new.sheet.catalogue ≡ self.old.sheet.catalogue }
+        ensures call { OnOk result (self.new.sheet.table ≡ drawn_table (C.meaning self.old.sheet.catalogue) place (checked_line line) self.old.sheet.table) }
+        ensures catalogue { self.new.sheet.catalogue ≡ self.old.sheet.catalogue }
     {
         let noted = line.clone()?;
         if self.sheet.tie(place, line).is_ok() {
@@ -71,7 +76,8 @@ impl<C: Catalogue> Used<C> {
 
     /// Strikes a line, and drops its note if it was carried out.
     fn strike(&mut self, place: u32)
-        ensures { self.new.sheet.catalogue ≡ self.old.sheet.catalogue }
+        ensures call { self.new.sheet.table ≡ called (C.meaning self.old.sheet.catalogue) (strike place) self.old.sheet.table }
+        ensures catalogue { self.new.sheet.catalogue ≡ self.old.sheet.catalogue }
     {
         if self.sheet.strike(place).is_ok() {
             let _ = self.lines.remove(&place);

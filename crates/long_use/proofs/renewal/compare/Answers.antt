@@ -1,5 +1,5 @@
 -- Settled out, both sheets have the limits and lines that they had, and `promise::compare` tells the rest (Comparing).
-use Rattle.std.proofs.Common.{◌≡◌, sym, ap, ◌∙◌}
+use Rattle.std.proofs.Common.{sym, ap, ◌∙◌}
 use Rattle.long_use.proofs.Comparing.{limits_still, lines_still, never_different, tells}
 use Rattle.long_use.proofs.renewal.compare.Goals as goal
 
