@@ -5,13 +5,21 @@
 
 #![tactic(auto)]
 
+mod renewal;
+
+ghost use Rattle.std.specs.Prelude.{◌≡◌, ◌≢◌, IfOk, OnOk};
+ghost use Rattle.sheet.specs.Calls.{drawn_table};
+ghost use Rattle.sheet.specs.Histories.{called, limit, strike};
+ghost use Rattle.sheet.specs.Lines.{checked_line};
+
 use binary32::binary32::Binary32;
 use catalogue::interface::Catalogue;
 use commands::{Command, read};
 use counters::counter::Counter;
+use renewal::{Compared, beside_new, compare};
 use sheet::lines::DrawnLine;
 use sheet::sheet::Sheet;
-use sheet::table::Outcome;
+use sheet::{PLACES, REGISTERS};
 use std::alloc::{AllocError, Global};
 use std::collections::BTreeMap;
 use std::{fmt, fs, io};
@@ -24,7 +32,7 @@ struct Limits {
     high: u32,
 }
 
-/// A sheet in use, with the limits and lines that stand on it, kept from the calls alone.
+/// A sheet in use, and beside it notes of the limits and lines that stand on it, kept from the calls alone.
 #[derive(Drop)]
 struct Used<C: Catalogue> {
     sheet: Sheet<C>,
@@ -33,7 +41,9 @@ struct Used<C: Catalogue> {
 }
 
 impl<C: Catalogue> Used<C> {
-    fn new(heap: Global, catalogue: C) -> Self {
+    fn new(heap: Global, catalogue: C) -> Self
+        ensures { result.sheet.catalogue ≡ catalogue }
+    {
         Used {
             sheet: Sheet::new(catalogue),
             limits: BTreeMap::new(heap),
@@ -42,7 +52,10 @@ impl<C: Catalogue> Used<C> {
     }
 
     /// Makes a limit, and notes it if it was carried out.
-    fn limit(&mut self, register: u32, limits: Limits) -> Result<(), AllocError> {
+    fn limit(&mut self, register: u32, limits: Limits) -> Result<(), AllocError>
+        ensures call { self.new.sheet.table ≡ called (C.meaning self.old.sheet.catalogue) (limit register limits.low limits.high) self.old.sheet.table }
+        ensures catalogue { self.new.sheet.catalogue ≡ self.old.sheet.catalogue }
+    {
         if self.sheet.limit(register, limits.low, limits.high).is_ok() {
             self.limits.insert(register, limits)?;
         }
@@ -50,7 +63,10 @@ impl<C: Catalogue> Used<C> {
     }
 
     /// Enters a line, and notes it if it was carried out.
-    fn tie(&mut self, place: u32, line: DrawnLine) -> Result<(), AllocError> {
+    fn tie(&mut self, place: u32, line: DrawnLine) -> Result<(), AllocError>
+        ensures call { OnOk result (self.new.sheet.table ≡ drawn_table (C.meaning self.old.sheet.catalogue) place (checked_line line) self.old.sheet.table) }
+        ensures catalogue { self.new.sheet.catalogue ≡ self.old.sheet.catalogue }
+    {
         let noted = line.clone()?;
         if self.sheet.tie(place, line).is_ok() {
             self.lines.insert(place, noted)?;
@@ -59,14 +75,19 @@ impl<C: Catalogue> Used<C> {
     }
 
     /// Strikes a line, and drops its note if it was carried out.
-    fn strike(&mut self, place: u32) {
+    fn strike(&mut self, place: u32)
+        ensures call { self.new.sheet.table ≡ called (C.meaning self.old.sheet.catalogue) (strike place) self.old.sheet.table }
+        ensures catalogue { self.new.sheet.catalogue ≡ self.old.sheet.catalogue }
+    {
         if self.sheet.strike(place).is_ok() {
             let _ = self.lines.remove(&place);
         }
     }
 
     /// Carries out a command of a script.
-    fn carry_out(&mut self, command: Command) -> Result<(), AllocError> {
+    fn carry_out(&mut self, command: Command) -> Result<(), AllocError>
+        ensures { self.new.sheet.catalogue ≡ self.old.sheet.catalogue }
+    {
         match command {
             Command::Limit {
                 register,
@@ -88,19 +109,36 @@ impl<C: Catalogue> Used<C> {
         Ok(())
     }
 
-    /// A new sheet with these limits and lines, the lines at other places.
-    fn renewed(&self, catalogue: C) -> Result<Sheet<C>, AllocError>
-    where
-        C: Drop,
-    {
-        let mut sheet = Sheet::new(catalogue);
-        for (register, limits) in &self.limits {
-            let _ = sheet.limit(*register, limits.low, limits.high);
+    /// Whether the limits that are read back at a register are those that were noted there: the same readings, since a reading
+    /// may have several patterns.
+    fn has_noted_limits(&self, catalogue: &C, register: u32) -> bool {
+        let all = C::readings();
+        let noted = self.limits.get(&register).copied().unwrap_or(Limits {
+            low: catalogue.pattern(all.low),
+            high: catalogue.pattern(all.high),
+        });
+        match self.sheet.limits(register) {
+            Ok((low, high)) => {
+                catalogue.rank(low) == catalogue.rank(noted.low)
+                    && catalogue.rank(high) == catalogue.rank(noted.high)
+            }
+            Err(_) => false,
         }
-        for (place, line) in &self.lines {
-            let _ = sheet.tie(63u32.saturating_sub(*place), line.clone()?);
+    }
+
+    /// Whether the line that is read back at a place is the one that was noted there, or none is and none was.
+    fn has_noted_line(&self, place: u32) -> bool {
+        match (self.sheet.line(place), self.lines.get(&place)) {
+            (Ok(Some(line)), Some(noted)) => DrawnLine::from(line) == *noted,
+            (Ok(None), None) => true,
+            _ => false,
         }
-        Ok(sheet)
+    }
+
+    /// Whether what is read back from the sheet is what was noted.
+    fn is_as_noted(&self, catalogue: &C) -> bool {
+        (0..REGISTERS as u32).all(|register| self.has_noted_limits(catalogue, register))
+            && (0..PLACES as u32).all(|place| self.has_noted_line(place))
     }
 }
 
@@ -110,55 +148,14 @@ fn look_at<C: Catalogue>(sheet: &Sheet<C>, register: u32) -> Option<(u32, u32)> 
     look.patterns(register).ok()
 }
 
-/// Settles until rest, or until a good many budgets are spent: how it ended.
-fn settle_out<C: Catalogue>(sheet: &mut Sheet<C>) -> Outcome {
-    for _ in 0..16 {
-        match sheet.settle(65_535) {
-            Ok((Outcome::Stopped, _)) | Err(_) => {}
-            Ok((outcome, _)) => return outcome,
-        }
-    }
-    Outcome::Stopped
-}
-
-/// Whether two sheets show the same range at every register.
-fn show_the_same<C: Catalogue>(a: &Sheet<C>, b: &Sheet<C>) -> bool {
-    (0..32).all(|register| look_at(a, register) == look_at(b, register))
-}
-
-/// How two sheets compare.
-#[derive(Clone, Copy)]
-enum Compared {
-    BothSettled,
-    BothVoid,
-    NotAtRest,
-    Different,
-}
-
-impl fmt::Display for Compared {
-    fn fmt<W: fmt::Write>(&self, f: &mut fmt::Formatter<W>) -> fmt::Result {
-        f.write_str(match *self {
-            Compared::BothSettled => "both settled, and alike",
-            Compared::BothVoid => "both void, and alike",
-            Compared::NotAtRest => "not at rest yet",
-            Compared::Different => "DIFFERENT",
-        })
-    }
-}
-
-fn compare<C: Catalogue>(used: &mut Sheet<C>, new: &mut Sheet<C>) -> Compared {
-    match (settle_out(used), settle_out(new)) {
-        (Outcome::Settled, Outcome::Settled) if show_the_same(used, new) => Compared::BothSettled,
-        (Outcome::Void, Outcome::Void) => Compared::BothVoid,
-        (Outcome::Stopped, _) | (_, Outcome::Stopped) => Compared::NotAtRest,
-        _ => Compared::Different,
-    }
-}
-
 /// Replays a script on a sheet, and keeps what stands.
-fn replay<C: Catalogue>(used: &mut Used<C>, script: &[u8]) -> Result<(), AllocError> {
-    for command in Lines::new(script).filter_map(read) {
-        used.carry_out(command)?;
+fn replay<C: Catalogue>(used: &mut Used<C>, script: &[u8]) -> Result<(), AllocError>
+    ensures { used.new.sheet.catalogue ≡ used.old.sheet.catalogue }
+{
+    for line in Lines::new(script) {
+        if let Some(command) = read(line) {
+            used.carry_out(command)?;
+        }
     }
     Ok(())
 }
@@ -190,8 +187,10 @@ fn replay_beside_new<C: Catalogue + Copy + Drop>(
     let (_board, commands) = line(script);
     let mut used = Used::new(heap, catalogue);
     replay(&mut used, commands)?;
-    let mut new = used.renewed(catalogue)?;
-    let compared = compare(&mut used.sheet, &mut new);
+    if !used.is_as_noted(&catalogue) {
+        println!(rt; "MISREAD: what is read back is not what was noted")?;
+    }
+    let (new, compared) = beside_new(&mut used.sheet, catalogue);
     for register in 0..32 {
         let beside = Beside {
             used: look_at(&used.sheet, register),
@@ -244,7 +243,9 @@ fn change<C: Catalogue>(
     used: &mut Used<C>,
     numbers: &mut Numbers,
     base: u32,
-) -> Result<(), AllocError> {
+) -> Result<(), AllocError>
+    ensures { used.new.sheet.catalogue ≡ used.old.sheet.catalogue }
+{
     match numbers.below(8) {
         0..=2 => {
             let register = numbers.below(12);
@@ -262,24 +263,36 @@ fn change<C: Catalogue>(
     Ok(())
 }
 
-/// How many comparisons came out how.
+fn count_one(count: &mut u32) {
+    *count = count.saturating_add(1);
+}
+
+/// How many comparisons came out how, and before how many of them what was read back was not what was noted.
 #[derive(Clone, Copy, Default)]
 struct Counts {
     settled: u32,
     void: u32,
     not_at_rest: u32,
     different: u32,
+    misread: u32,
 }
 
 impl Counts {
-    fn note(&mut self, compared: Compared) {
-        let count = match compared {
-            Compared::BothSettled => &mut self.settled,
-            Compared::BothVoid => &mut self.void,
-            Compared::NotAtRest => &mut self.not_at_rest,
-            Compared::Different => &mut self.different,
-        };
-        *count = count.saturating_add(1);
+    fn note(&mut self, compared: Compared)
+        ensures { compared ≢ Compared.Different → self.new.different ≡ self.old.different }
+    {
+        match compared {
+            Compared::BothSettled => count_one(&mut self.settled),
+            Compared::BothVoid => count_one(&mut self.void),
+            Compared::NotAtRest => count_one(&mut self.not_at_rest),
+            Compared::Different => count_one(&mut self.different),
+        }
+    }
+
+    fn note_misread(&mut self)
+        ensures { self.new.different ≡ self.old.different }
+    {
+        count_one(&mut self.misread);
     }
 }
 
@@ -290,11 +303,16 @@ impl fmt::Display for Counts {
             void,
             not_at_rest,
             different,
+            misread,
         } = *self;
         write!(
             f,
             "{settled} settled and alike, {void} void and alike, {not_at_rest} not at rest, {different} different"
-        )
+        )?;
+        if misread > 0 {
+            write!(f, ", {misread} MISREAD")?;
+        }
+        Ok(())
     }
 }
 
@@ -303,7 +321,9 @@ fn soak<C: Catalogue + Copy + Drop>(
     heap: Global,
     catalogue: C,
     base: u32,
-) -> Result<Counts, AllocError> {
+) -> Result<Counts, AllocError>
+    ensures { IfOk result (λ counts. counts.different ≡ 0) }
+{
     let mut counts = Counts::default();
     let mut numbers = Numbers { state: 754 };
     let mut used = Used::new(heap, catalogue);
@@ -311,8 +331,11 @@ fn soak<C: Catalogue + Copy + Drop>(
         for _ in 0..1_000 {
             change(&mut used, &mut numbers, base)?;
         }
-        let mut new = used.renewed(catalogue)?;
-        counts.note(compare(&mut used.sheet, &mut new));
+        if !used.is_as_noted(&catalogue) {
+            counts.note_misread();
+        }
+        let (_new, compared) = beside_new(&mut used.sheet, catalogue);
+        counts.note(compared);
     }
     Ok(counts)
 }

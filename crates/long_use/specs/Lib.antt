@@ -1,0 +1,2 @@
+-- How a used and a new sheet compare.
+pub mod Comparisons
