@@ -16,12 +16,12 @@ use Rattle.catalogue.specs.Refusals.{numbered}
 use Rattle.sheet.specs.declared.lines.DrawnLine.{DrawnLine}
 use Rattle.sheet.specs.declared.lines.Line.{Line}
 use Rattle.sheet.specs.declared.table.Table.{Table}
-use Rattle.sheet.specs.Calls.{drawn_asked, in_patterns, limit_asked, limits_asked, limits_read, line_asked}
+use Rattle.sheet.specs.Calls.{done, drawn_asked, in_patterns, limit_asked, limits_asked, limits_read, line_asked}
 use Rattle.sheet.specs.Histories.{Reached, passes_check}
 use Rattle.sheet.specs.Lines.{checked_line, checked_line_of, drawn_of, row_of}
 use Rattle.sheet.specs.Numbers.{no_place, no_register}
 use Rattle.sheet.specs.Rules.{limits_at, line_at, no_range, stands}
-use Rattle.sheet.specs.Words.{IsEnter, IsLimit}
+use Rattle.sheet.specs.Words.{IsEnter, SetsLimits}
 use Rattle.sheet.proofs.Kept.{Kept, standing_place}
 use Rattle.sheet.proofs.Meets.{empty_from, proper_from}
 use Rattle.promise.specs.Promise.{SameLines}
@@ -46,28 +46,46 @@ module _ (m : Meaning) (laws : Laws m) (t : Table) (reached : ∥ Reached m t �
   order_kept a b h = proper_from (record { low = a; high = b }) (∥∥₁_elim reached (search props) (λ k. not_empty (record { low = a; high = b }) (h (subst (Sound m) (sym k.1) (after_sound m laws k.0)))))
 
   -- the limits of a sheet are a proper range of readings, so the patterns of their ends are read back to them
-  pub asked_again : limit_asked m r (m.writes (limits_at t r).low) (m.writes (limits_at t r).high) ≡ Ok (limits_at t r)
-  asked_again =
-      let a = limits_at t r in
-      let proper : a.low ≤ℤ a.high = order_kept a.low a.high (λ s. s.proper r lt) in
-      let least : m.least ≤ℤ a.low = order_kept m.least a.low (λ s. (s.readings r lt).0) in
-      let greatest : a.high ≤ℤ m.greatest = order_kept a.high m.greatest (λ s. (s.readings r lt).1) in
-      let low : m.reads (m.writes a.low) ≡ Some a.low = laws.writes a.low (least, omega (arith, ints)) in
-      let high : m.reads (m.writes a.high) ≡ Some a.high = laws.writes a.high (omega (arith, ints), greatest) in
-      cond-false (no_register r) (Err 1) (limits_read (m.reads (m.writes a.low)) (m.reads (m.writes a.high))) (ap not (lt-ltb r 32 lt))
-      ∙ ap (λ o. limits_read o (m.reads (m.writes a.high))) low
-      ∙ ap (limits_read (Some a.low)) high
-      ∙ cond-false (empty a) (Err 3) (Ok a) (not_empty a proper)
+  module _ (low high : ℕ) (read : Ok (low, high) ≡ in_patterns m (limits_asked r t)) where
+    abbrev a : Range
+    a = limits_at t r
 
-  -- limits read back from t and asked of v, which makes w of it
-  pub limits_copied : (v w : Table) (low high : ℕ) → Kept v → Ok (low, high) ≡ in_patterns m (limits_asked r t) → ((b : Range) → limit_asked m r low high ≡ Ok b → IsLimit r b v w) → limits_at w r ≡ limits_at t r
-  limits_copied v w low high kept read words =
-      let a = limits_at t r in
-      let told = read ∙ ap (in_patterns m) (cond-false (no_register r) (Err 1) (Ok a) (ap not (lt-ltb r 32 lt))) in
-      let same_low : m.writes a.low ≡ low = sym (ap low_read told) in
-      let same_high : m.writes a.high ≡ high = sym (ap high_read told) in
-      let asked : limit_asked m r low high ≡ Ok a = subst (λ p. limit_asked m r p high ≡ Ok a) same_low (subst (λ p. limit_asked m r (m.writes a.low) p ≡ Ok a) same_high asked_again) in
-      ap (λ ls. get_or ls r no_range) (words a asked).limits ∙ get_or-set_same v.limits r a no_range (let long = kept.formed.limits in omega arith)
+    told : in_patterns m (limits_asked r t) ≡ Ok (m.writes a.low, m.writes a.high)
+    told = ap (in_patterns m) (cond-false (no_register r) (Err 1) (Ok a) (ap not (lt-ltb r 32 lt)))
+
+    proper : a.low ≤ℤ a.high
+    proper = order_kept a.low a.high (λ s. s.proper r lt)
+
+    least : m.least ≤ℤ a.low
+    least = order_kept m.least a.low (λ s. (s.readings r lt).0)
+
+    greatest : a.high ≤ℤ m.greatest
+    greatest = order_kept a.high m.greatest (λ s. (s.readings r lt).1)
+
+    low_again : m.reads low ≡ Some a.low
+    low_again = ap m.reads (ap low_read (read ∙ told)) ∙ laws.writes a.low (least, omega (arith, ints, proper, greatest))
+
+    high_again : m.reads high ≡ Some a.high
+    high_again = ap m.reads (ap high_read (read ∙ told)) ∙ laws.writes a.high (omega (arith, ints, proper, least), greatest)
+
+    asked_again : limit_asked m r low high ≡ Ok a
+    asked_again =
+        cond-false (no_register r) (Err 1) (limits_read (m.reads low) (m.reads high)) (ap not (lt-ltb r 32 lt))
+        ∙ ap (λ o. limits_read o (m.reads high)) low_again
+        ∙ ap (limits_read (Some a.low)) high_again
+        ∙ cond-false (empty a) (Err 3) (Ok a) (not_empty a proper)
+
+    -- limits read back from t and asked of v, which makes w of it
+    pub limits_copied : (v w : Table) → Kept v → (o : Result (Unit {0}) Refusal) → numbered o ≡ done (limit_asked m r low high) → OnOk o (SetsLimits m r low high v w) → limits_at w r ≡ limits_at t r
+    limits_copied v w kept (Err e) answer words = let h = answer ∙ ap done asked_again in absurd cc
+    limits_copied v w kept (Ok x) answer words =
+        let b = words.limits in
+        let l = sym words.reads_low ∙ low_again in
+        let h = sym words.reads_high ∙ high_again in
+        let low_same : b.low ≡ a.low = cc in
+        let high_same : b.high ≡ a.high = cc in
+        let same : b ≡ a = λ i. record { low = low_same i; high = high_same i } in
+        ap (λ ls. get_or ls r no_range) words.made.limits ∙ get_or-set_same v.limits r b no_range (let long = kept.formed.limits in omega arith) ∙ same
 
 -- ---- lines
 kind_again : (k : Kind) → kind_of (kind_number k) ≡ Some k

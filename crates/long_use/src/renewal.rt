@@ -118,7 +118,7 @@ fn judge(used: Outcome, new: Outcome, alike: bool) -> Compared
 }
 
 /// Settles two sheets out, and compares what they show. With the same limits and lines they never differ.
-pub fn compare<C: Catalogue>(used: &mut Sheet<C>, new: &mut Sheet<C>) -> Compared
+pub(crate) fn compare<C: Catalogue>(used: &mut Sheet<C>, new: &mut Sheet<C>) -> Compared
     requires { C.meaning used.old.catalogue ≡ C.meaning new.old.catalogue }
     ensures tells { Tells result used.new.table new.new.table }
     ensures alike { SameLimits (limits_at used.old.table) (limits_at new.old.table) → SameLines (line_at used.old.table) (line_at new.old.table) → result ≢ Compared.Different }
@@ -132,7 +132,7 @@ pub fn compare<C: Catalogue>(used: &mut Sheet<C>, new: &mut Sheet<C>) -> Compare
 }
 
 /// A used sheet beside a new one with what stands on it, both settled out, and how they compare: never as different.
-pub fn beside_new<C: Catalogue>(used: &mut Sheet<C>, catalogue: C) -> (Sheet<C>, Compared)
+pub(crate) fn beside_new<C: Catalogue>(used: &mut Sheet<C>, catalogue: C) -> (Sheet<C>, Compared)
     requires { C.meaning used.old.catalogue ≡ C.meaning catalogue }
     ensures alike { result.1 ≢ Compared.Different }
     ensures tells { Tells result.1 used.new.table result.0.table }

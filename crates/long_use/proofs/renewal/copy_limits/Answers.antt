@@ -14,7 +14,8 @@ returns-in-Ok-clause-there g c =
     let m = g.C.Catalogue.meaning to.catalogue in
     limits_copied m (g.met.C.Catalogue.laws to.catalogue) from.table
     (subst (λ n. ∥ Reached n from.table ∥₁) c.requires.same_meaning from.reached)
-    c.args.register c.requires.register to.table c.limit.new.self.table c.in-Ok.low c.in-Ok.high
+    c.args.register c.requires.register c.in-Ok.low c.in-Ok.high
+    (sym (ap numbered c.in-Ok.is) ∙ c.limits.ensures.answer ∙ ap (λ n. in_patterns n (limits_asked c.args.register from.table)) c.requires.same_meaning)
+    to.table c.limit.new.self.table
     (kept_if_reached m to.table to.reached)
-    (sym (ap numbered c.in-Ok.is) ∙ c.limits.ensures ∙ ap (λ n. in_patterns n (limits_asked c.args.register from.table)) c.requires.same_meaning)
-    c.limit.ensures.words
+    c.limit.result c.limit.ensures.answer c.limit.ensures.words

@@ -15,5 +15,5 @@ returns-in-Ok-Some-clause-there g c =
     (kept_if_reached (g.C.Catalogue.meaning from.catalogue) from.table from.reached)
     (kept_if_reached (g.C.Catalogue.meaning to.catalogue) to.table to.reached)
     c.args.place (63 - c.args.place) c.requires.place lt arm.line c.from.result
-    (sym (ap numbered (arm.is ∙ ap Ok arm.field-0-is)) ∙ c.line.ensures) c.from.ensures c.requires.free
+    (sym (ap numbered (arm.is ∙ ap Ok arm.field-0-is)) ∙ c.line.ensures.answer) c.from.ensures c.requires.free
     c.tie.result c.tie.ensures.answer c.tie.ensures.words
