@@ -191,7 +191,7 @@ fn replay_beside_new<C: Catalogue + Copy + Drop>(
         println!(rt; "MISREAD: what is read back is not what was noted")?;
     }
     let (new, compared) = beside_new(&mut used.sheet, catalogue);
-    for register in 0..32 {
+    for register in 0..REGISTERS as u32 {
         let beside = Beside {
             used: look_at(&used.sheet, register),
             new: look_at(&new, register),

@@ -13,6 +13,9 @@ use sheet::table::Outcome;
 use sheet::{MOST_STEPS, PLACES, REGISTERS};
 use std::fmt;
 
+/// The number of the last place.
+const LAST_PLACE: u32 = PLACES as u32 - 1;
+
 /// Gives a register of one sheet the limits that it has on another.
 fn copy_limits<C: Catalogue>(from: &Sheet<C>, to: &mut Sheet<C>, register: u32)
     requires register { register < REGISTERS }
@@ -30,14 +33,14 @@ fn copy_limits<C: Catalogue>(from: &Sheet<C>, to: &mut Sheet<C>, register: u32)
 /// Enters the line of a place of one sheet, if one stands there, at the place as far from the last on another.
 fn copy_line<C: Catalogue>(from: &Sheet<C>, to: &mut Sheet<C>, place: u32)
     requires place { place < PLACES }
-    requires free { line_at to.old.table (63 - place) ≡ None }
-    ensures there { line_at to.new.table (63 - place) ≡ line_at from.now.table place }
-    ensures elsewhere { (n : ℕ) → n ≢ 63 - place → line_at to.new.table n ≡ line_at to.old.table n }
+    requires free { line_at to.old.table (LAST_PLACE - place) ≡ None }
+    ensures there { line_at to.new.table (LAST_PLACE - place) ≡ line_at from.now.table place }
+    ensures elsewhere { (n : ℕ) → n ≢ LAST_PLACE - place → line_at to.new.table n ≡ line_at to.old.table n }
     ensures limits { to.new.table.limits ≡ to.old.table.limits }
     ensures catalogue { to.new.catalogue ≡ to.old.catalogue }
 {
     if let Ok(Some(line)) = from.line(place) {
-        let _ = to.tie(63 - place, DrawnLine::from(line));
+        let _ = to.tie(LAST_PLACE - place, DrawnLine::from(line));
     }
 }
 
