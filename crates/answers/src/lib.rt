@@ -109,12 +109,12 @@ fn push_pattern(text: &mut Text, pattern: u32)
     ensures { text.new.bytes ≡ text.old.bytes ++ written pattern }
 {
     push_digit(text, pattern >> 28);
-    push_digit(text, pattern >> 24 & 15);
-    push_digit(text, pattern >> 20 & 15);
-    push_digit(text, pattern >> 16 & 15);
-    push_digit(text, pattern >> 12 & 15);
-    push_digit(text, pattern >> 8 & 15);
-    push_digit(text, pattern >> 4 & 15);
+    push_digit(text, (pattern >> 24) & 15);
+    push_digit(text, (pattern >> 20) & 15);
+    push_digit(text, (pattern >> 16) & 15);
+    push_digit(text, (pattern >> 12) & 15);
+    push_digit(text, (pattern >> 8) & 15);
+    push_digit(text, (pattern >> 4) & 15);
     push_digit(text, pattern & 15);
 }
 

@@ -64,14 +64,17 @@ pub fn exchange<C: Catalogue>(a: &mut Sheet<C>, b: &mut Sheet<C>)
 
 /// A new sheet in place of an old one.
 pub fn renew<C: Catalogue + Drop>(sheet: &mut Sheet<C>, catalogue: C)
-    ensures { sheet.new.table ≡ new_table (C.meaning catalogue) }
+    ensures table { sheet.new.table ≡ new_table (C.meaning catalogue) }
+    ensures catalogue { sheet.new.catalogue ≡ catalogue }
 {
     *sheet = Sheet::new(catalogue);
 }
 
 /// A sheet taken out, with a new one in its place.
 pub fn take<C: Catalogue>(sheet: &mut Sheet<C>, catalogue: C) -> Sheet<C>
-    ensures { result ≡ sheet.old }
+    ensures taken { result ≡ sheet.old }
+    ensures table { sheet.new.table ≡ new_table (C.meaning catalogue) }
+    ensures catalogue { sheet.new.catalogue ≡ catalogue }
 {
     std::mem::replace(sheet, Sheet::new(catalogue))
 }

@@ -4,8 +4,10 @@
 
 ghost use Rattle.commands.specs.Commands.{by_letter, command_of, enter_of, kind_by_letter, kind_of, limit_of, look_of, none_left, partner_of, settle_of, strike_of};
 ghost use Rattle.commands.specs.Lines.{Reads};
+ghost use Rattle.catalogue.specs.Numbers.{kind_number};
 ghost use Rattle.std.specs.Prelude.{◌≡◌};
 
+use catalogue::types::Kind;
 use sheet::lines::DrawnLine;
 use words::{Words, number, pattern};
 
@@ -150,9 +152,16 @@ fn kind_lettered(letter: char) -> Option<u32>
     ensures { result ≡ kind_by_letter letter }
 {
     match letter {
-        's' => Some(0),
-        'd' => Some(1),
-        'p' => Some(2),
+        's' => Some(number_of(Kind::Sum)),
+        'd' => Some(number_of(Kind::Difference)),
+        'p' => Some(number_of(Kind::Peak)),
         _ => None,
     }
+}
+
+/// A kind's number, as a drawn line has it.
+fn number_of(kind: Kind) -> u32
+    ensures { result ≡ kind_number kind }
+{
+    u32::from(u8::from(kind))
 }

@@ -1,27 +1,25 @@
 -- The limits and lines that a sheet reads back, asked of another: each is carried out there.
-use Rattle.std.proofs.Common.{◌≡◌, ℕ, ◌<◌, ◌-◌, true, false, cond, not, ◌&&◌, ◌||◌, eqb, ltb, get_or, is_some, ℤ, ◌≤ℤ◌, Some, None, Ok, Err, Option, Result, OnOk, sym, refl, ap, ◌∙◌, subst, ⊎_elim, arith}
+use Rattle.std.proofs.Common.{◌≡◌, ℕ, ◌<◌, ◌-◌, false, cond, not, get_or, is_some, ℤ, ◌≤ℤ◌, Some, None, Ok, Err, Option, Result, OnOk, sym, ap, ◌∙◌, subst, ⊎_elim, arith}
 use denote.Struct.Props.{props}
 use Rattle.std.proofs.Math.Logic.{∥∥₁_elim}
-use Rattle.std.proofs.lemmas.Bool.{cases_Bool, cond-false, ne_eqb, lt-ltb, le-ltb, ltb-true, and_parts, or_from}
+use Rattle.std.proofs.lemmas.Bool.{cases_Bool, cond-false, lt-ltb}
 use Rattle.std.proofs.lemmas.Int.{ints}
 use Rattle.std.proofs.lemmas.List.{get_or-set_same}
-use Rattle.catalogue.specs.declared.types.Kind.{Kind}
-use Rattle.catalogue.specs.declared.types.Kind.TheVariants.{Sum, Difference, Peak}
 use Rattle.catalogue.specs.declared.types.Range.{Range}
 use Rattle.catalogue.specs.declared.types.Refusal.{Refusal}
 use Rattle.catalogue.specs.Meanings.{Laws, Meaning}
-use Rattle.catalogue.specs.Numbers.{kind_number, kind_of}
 use Rattle.catalogue.specs.Ranges.{Proper, empty}
 use Rattle.catalogue.specs.Refusals.{numbered}
 use Rattle.sheet.specs.declared.lines.DrawnLine.{DrawnLine}
 use Rattle.sheet.specs.declared.lines.Line.{Line}
 use Rattle.sheet.specs.declared.table.Table.{Table}
 use Rattle.sheet.specs.Calls.{done, drawn_asked, in_patterns, limit_asked, limits_asked, limits_read, line_asked}
-use Rattle.sheet.specs.Histories.{Reached, passes_check}
-use Rattle.sheet.specs.Lines.{checked_line, checked_line_of, drawn_of, row_of}
+use Rattle.sheet.specs.Histories.{Reached}
+use Rattle.sheet.specs.Lines.{checked_line, drawn_of, row_of}
 use Rattle.sheet.specs.Numbers.{no_place, no_register}
 use Rattle.sheet.specs.Rules.{limits_at, line_at, no_range, stands}
 use Rattle.sheet.specs.Words.{IsEnter, SetsLimits}
+use Rattle.sheet.proofs.Checking.{checked_again}
 use Rattle.sheet.proofs.Kept.{Kept, standing_place}
 use Rattle.sheet.proofs.Meets.{empty_from, proper_from}
 use Rattle.promise.specs.Promise.{SameLines}
@@ -88,29 +86,6 @@ module _ (m : Meaning) (laws : Laws m) (t : Table) (reached : ∥ Reached m t �
         ap (λ ls. get_or ls r no_range) words.made.limits ∙ get_or-set_same v.limits r b no_range (let long = kept.formed.limits in omega arith) ∙ same
 
 -- ---- lines
-kind_again : (k : Kind) → kind_of (kind_number k) ≡ Some k
-kind_again Sum = refl
-kind_again Difference = refl
-kind_again Peak = refl
-
--- a line that passes the check passes it again, drawn as it is
-pub checked_again : (l : Line) → passes_check l ≡ true → checked_line (drawn_of (row_of l)) ≡ Ok l
-checked_again l p =
-    let s = l.operation.modes.bits in
-    let d = drawn_of (row_of l) in
-    let parts = and_parts (ltb 0 s && ltb s 16) (ltb l.x 32 && (ltb l.y 32 && ltb l.z 32)) p in
-    let modes = and_parts (ltb 0 s) (ltb s 16) parts.0 in
-    let some_mode : 0 < s = ltb-true 0 s modes.0 in
-    let no_other : s < 16 = ltb-true s 16 modes.1 in
-    let x = and_parts (ltb l.x 32) (ltb l.y 32 && ltb l.z 32) parts.1 in
-    let yz = and_parts (ltb l.y 32) (ltb l.z 32) x.1 in
-    let bad_modes : (eqb s 0 || ltb 15 s) ≡ false = or_from (eqb s 0) (ltb 15 s) (ne_eqb s 0 (λ e. omega arith)) (le-ltb 15 s (omega arith)) in
-    let bad : (not (ltb l.x 32) || (not (ltb l.y 32) || not (ltb l.z 32))) ≡ false = or_from (not (ltb l.x 32)) _ (ap not x.0) (or_from (not (ltb l.y 32)) (not (ltb l.z 32)) (ap not yz.0) (ap not yz.1)) in
-    let here : Result Line ℕ = cond (not (ltb l.x 32) || (not (ltb l.y 32) || not (ltb l.z 32))) (Err 1) (Ok l) in
-    ap (λ k. checked_line_of k d) (kind_again l.operation.kind)
-    ∙ cond-false (eqb s 0 || ltb 15 s) (Err 5) here bad_modes
-    ∙ cond-false (not (ltb l.x 32) || (not (ltb l.y 32) || not (ltb l.z 32))) (Err 1) (Ok l) bad
-
 abbrev line_read : Result (Option Line) ℕ → Option Line
 line_read (Ok o) = o
 line_read (Err e) = None

@@ -1,5 +1,5 @@
 -- After every history the table is sound.
-use Rattle.std.proofs.Common.{◌≡◌, ℕ, zero, suc, ◌<◌, false, ◌||◌, ltb, List, [], ◌∷◌, get_or, replicate, Ok, Err, Result, sym, refl, ◌∙◌, subst}
+use Rattle.std.proofs.Common.{◌≡◌, ℕ, zero, suc, ◌<◌, false, not, ◌||◌, ltb, List, [], ◌∷◌, get_or, replicate, Ok, Err, Result, sym, refl, ◌∙◌, subst}
 use Rattle.std.proofs.lemmas.List.{get_or-replicate}
 use Rattle.std.proofs.lemmas.Bool.{both_ways, cond_both, ltb-true, not-false, or_parts}
 use Rattle.catalogue.specs.declared.types.Range.{Range}
@@ -71,7 +71,7 @@ module _ (m : Meaning) (laws : Laws m) where
       (λ _ _. sound)
       (λ d kept.
       let parts = or_parts (no_place n) (stands t n) d in
-      let is = enter_words m n l t (ltb-true n 64 (not-false (ltb n 64) parts.0)) in
+      let is = enter_words m n l t (ltb-true n 64 (not-false (ltb n 64) parts.0)) parts.1 in
       enter_sound m t (table_after_enter m n l t) sound kept is.limits n l is (none_from (line_at t n) parts.1))
 
   called_sound : (k : Call) (t : Table) → Sound m t → Kept (called m k t) → Sound m (called m k t)
@@ -79,7 +79,7 @@ module _ (m : Meaning) (laws : Laws m) where
   called_sound (enter n l) t sound = cond_both (passes_check l) (line_table m n l t) t (λ u. Kept u → Sound m u) (λ _. line_entered n l t sound) (λ _ _. sound)
   called_sound (strike n) t sound = cond_both (no_line n t) t (table_after_strike m n t) (λ u. Kept u → Sound m u)
       (λ _ _. sound)
-      (λ _ kept. let is = strike_words m n t in strike_sound m t (table_after_strike m n t) sound kept is.limits n is)
+      (λ d kept. let is = strike_words m n t (not-false (stands t n) (or_parts (no_place n) (not (stands t n)) d).1) in strike_sound m t (table_after_strike m n t) sound kept is.limits n is)
   called_sound (settle b) t sound = cond_both (bad_budget b) t (settling m b t).table (λ u. Kept u → Sound m u) (λ _ _. sound) (λ _ _. settled_sound b t sound)
   called_sound (look r) t sound = λ _. sound
   called_sound (partner n x z) t sound = λ _. sound

@@ -3,18 +3,16 @@ use Rattle.std.proofs.Common.{◌≡◌, ◌≢◌, ℕ, zero, suc, ◌+◌, ◌
 use Rattle.std.specs.Result.{result_ok}
 use Rattle.std.proofs.lemmas.Grind.{common_steps}
 use Rattle.std.proofs.lemmas.List.{ext_get_or, get_or-set_same, get_or-set_other, get_or-replicate, get_or_past, length-set}
-use Rattle.std.proofs.lemmas.Bool.{cases_eq, cases_Bool, cond-false, eq-eqb, ne_eqb, or_from, le-ltb, lt-ltb, ltb-true, ltb-false}
-use Rattle.catalogue.specs.declared.types.Kind.{Kind}
-use Rattle.catalogue.specs.declared.types.Kind.TheVariants.{Sum, Difference, Peak}
+use Rattle.std.proofs.lemmas.Bool.{cases_eq, cases_Bool, eq-eqb, ne_eqb, ltb-true, ltb-false}
 use Rattle.catalogue.specs.declared.types.Refusal.{Refusal}
-use Rattle.catalogue.specs.Numbers.{kind_number, kind_of}
 use Rattle.sheet.specs.declared.lines.CheckedLine.{CheckedLine}
 use Rattle.sheet.specs.declared.lines.Line.{Line}
 use Rattle.sheet.specs.declared.places.Places.{Places}
 use Rattle.sheet.specs.declared.table.Row.{Row}
 use Rattle.sheet.specs.Boards.{Agrees, line_answer, line_if, line_in, line_or_none, lines_from, lines_of, index_with, index_without, names, places_naming, places_with_line}
-use Rattle.sheet.specs.Lines.{check_answer, checked_line_of, drawn_of, row_of}
+use Rattle.sheet.specs.Lines.{check_answer, row_of}
 use Rattle.sheet.specs.Places.{has, none, places_where, with_place, without}
+use Rattle.sheet.proofs.Checking.{checked_again, checked_passes}
 use Rattle.sheet.proofs.PlaceSets.{same_sets, where_at, where_past, where_is, none_has, none_is, with_here, with_other, with_has, with_is, without_here, without_other, without_has, without_is}
 
 -- ---- the line at each place
@@ -133,25 +131,8 @@ line_put : (ls : List (Option Line)) (n : ℕ) (o : Option Line) (k : ℕ) → n
 line_put ls n o k lt = grind (arith, common_steps)
 
 -- ---- a checked line is made again from its row
-kind_again : (k : Kind) → kind_of (kind_number k) ≡ Some k
-kind_again Sum = refl
-kind_again Difference = refl
-kind_again Peak = refl
-
 pub remade : (c : CheckedLine) → line_if true (row_of c.line) ≡ Some c.line
-remade c =
-    let l = c.line in
-    let s = l.operation.modes.bits in
-    let d = drawn_of (row_of l) in
-    let bad-modes : (eqb s 0 || ltb 15 s) ≡ false = or_from (eqb s 0) (ltb 15 s) (ne_eqb s 0 (λ e. omega (arith, c.some_mode, e))) (le-ltb 15 s (omega (arith, c.no_other_mode))) in
-    let x : not (ltb l.x 32) ≡ false = ap not (lt-ltb l.x 32 c.x_exists) in
-    let y : not (ltb l.y 32) ≡ false = ap not (lt-ltb l.y 32 c.y_exists) in
-    let z : not (ltb l.z 32) ≡ false = ap not (lt-ltb l.z 32 c.z_exists) in
-    let bad : (not (ltb l.x 32) || (not (ltb l.y 32) || not (ltb l.z 32))) ≡ false = or_from (not (ltb l.x 32)) _ x (or_from (not (ltb l.y 32)) (not (ltb l.z 32)) y z) in
-    let here : Result Line ℕ = cond (not (ltb l.x 32) || (not (ltb l.y 32) || not (ltb l.z 32))) (Err 1) (Ok l) in
-    ap line_or_none (ap (λ k. checked_line_of k d) (kind_again l.operation.kind)
-    ∙ cond-false (eqb s 0 || ltb 15 s) (Err 5) here bad-modes
-    ∙ cond-false (not (ltb l.x 32) || (not (ltb l.y 32) || not (ltb l.z 32))) (Err 1) (Ok l) bad)
+remade c = ap line_or_none (checked_again c.line (checked_passes c))
 
 -- ---- the invariant
 pub no_lines : (n : ℕ) → line_in (replicate 64 None) n ≡ None

@@ -1,5 +1,6 @@
 -- What is read back is what the list of calls says.
-use Rattle.std.proofs.Common.{◌≡◌, ℕ, false, ltb, List, Ok, Err, Option, ap, ◌∙◌}
+use Rattle.std.proofs.Common.{◌≡◌, ℕ, false, ltb, List, Some, None, Ok, Err, Option, ap, sym, ◌∙◌}
+use Rattle.std.specs.Option.{IfSome}
 use Rattle.std.proofs.lemmas.Bool.{cond-false, ltb-true, not-false}
 use Rattle.catalogue.specs.Meanings.{Meaning}
 use Rattle.sheet.specs.declared.lines.Line.{Line}
@@ -8,6 +9,9 @@ use Rattle.sheet.specs.Calls.{in_patterns, limits_asked, line_asked}
 use Rattle.sheet.specs.Histories.{Call, after, limits_of, line_of}
 use Rattle.sheet.specs.Numbers.{no_place, no_register}
 use Rattle.sheet.specs.Rules.{limits_at, line_at}
+use Rattle.sheet.specs.Lines.{checked_line, drawn_of, row_of}
+use Rattle.sheet.proofs.Checking.{checked_again}
+use Rattle.sheet.proofs.Kept.{Kept}
 use Rattle.sheet.proofs.Recounts.{limits_after, line_after}
 
 module _ (m : Meaning) (t : Table) (h : List Call) (is : t ≡ after m h) where
@@ -22,3 +26,11 @@ module _ (m : Meaning) (t : Table) (h : List Call) (is : t ≡ after m h) where
       let asked = e ∙ cond-false (no_place n) (Err 7) (Ok (line_at t n)) named in
       let told : o ≡ line_at t n = cc in
       told ∙ ap (λ u. line_at u n) is ∙ line_after m h n
+
+-- a line that is read back passes the check again
+pub line_again : (t : Table) → Kept t → (n : ℕ) → no_place n ≡ false → (o : Option Line) → Ok o ≡ line_asked n t → IfSome o (λ l. checked_line (drawn_of (row_of l)) ≡ Ok l)
+line_again t kept n named None e = tt
+line_again t kept n named (Some l) e =
+    let asked = e ∙ cond-false (no_place n) (Err 7) (Ok (line_at t n)) named in
+    let told : Some l ≡ line_at t n = cc in
+    checked_again l (kept.formed.passes n l (sym told))

@@ -76,7 +76,7 @@ module _ (m : Meaning) where
       let parts = or_parts (no_place k) (stands (after m h) k) d in
       let lt : k < 64 = ltb-true k 64 (not-false (ltb k 64) parts.0) in
       let long : k < length (after m h).lines = omega (arith, (kept_after m h).formed.places) in
-      ap (λ ls. line_in ls n) (enter_words m k l (after m h) lt).lines ∙ ⊎_elim
+      ap (λ ls. line_in ls n) (enter_words m k l (after m h) lt parts.1).lines ∙ ⊎_elim
       (λ (e : n ≡ k). subst (λ j. line_in (set (after m h).lines k (Some l)) j ≡ cond ((eqb k j && ltb j 64) && (passes_check l && not (is_some (line_of h j)))) (Some l) (line_of h j)) (sym e)
       (get_or-set_same (after m h).lines k (Some l) None long ∙ sym (cond-true _ (Some l) (line_of h k)
       (all_four (eqb k k) (ltb k 64) (passes_check l) (is_some (line_of h k)) (eq-eqb k k refl) (lt-ltb k 64 lt) p (sym (ap is_some (line_after h k)) ∙ parts.1)))))
@@ -94,7 +94,7 @@ module _ (m : Meaning) where
       (λ d.
       let lt : k < 64 = ltb-true k 64 (not-false (ltb k 64) (or_parts (no_place k) (not (stands (after m h) k)) d).0) in
       let long : k < length (after m h).lines = omega (arith, (kept_after m h).formed.places) in
-      ap (λ ls. line_in ls n) (strike_words m k (after m h)).lines ∙ ⊎_elim
+      ap (λ ls. line_in ls n) (strike_words m k (after m h) (not-false (stands (after m h) k) (or_parts (no_place k) (not (stands (after m h) k)) d).1)).lines ∙ ⊎_elim
       (λ (e : k ≡ n). subst (λ j. line_in (set (after m h).lines k None) j ≡ cond (eqb k j) None (line_of h j)) e (get_or-set_same (after m h).lines k None None long ∙ sym (cond-true (eqb k k) None (line_of h k) (eq-eqb k k refl))))
       (λ (ne : k ≢ n). get_or-set_other (after m h).lines k n None None (λ e. ne (sym e)) ∙ line_after h n ∙ sym (cond-false (eqb k n) None (line_of h n) (ne_eqb k n ne)))
       (cases_eq k n))
@@ -127,11 +127,11 @@ module _ (m : Meaning) where
   limits_after (enter k l ∷ h) r lt = cond_both (passes_check l) (line_table m k l (after m h)) (after m h) (λ u. limits_at u r ≡ limits_of m h r)
       (λ p. cond_both (no_place k || stands (after m h) k) (after m h) (table_after_enter m k l (after m h)) (λ u. limits_at u r ≡ limits_of m h r)
       (λ _. limits_after h r lt)
-      (λ d. ap (λ ls. get_or ls r no_range) (enter_words m k l (after m h) (ltb-true k 64 (not-false (ltb k 64) (or_parts (no_place k) (stands (after m h) k) d).0))).limits ∙ limits_after h r lt))
+      (λ d. ap (λ ls. get_or ls r no_range) (enter_words m k l (after m h) (ltb-true k 64 (not-false (ltb k 64) (or_parts (no_place k) (stands (after m h) k) d).0)) (or_parts (no_place k) (stands (after m h) k) d).1).limits ∙ limits_after h r lt))
       (λ _. limits_after h r lt)
   limits_after (strike k ∷ h) r lt = cond_both (no_line k (after m h)) (after m h) (table_after_strike m k (after m h)) (λ u. limits_at u r ≡ limits_of m h r)
       (λ _. limits_after h r lt)
-      (λ _. ap (λ ls. get_or ls r no_range) (strike_words m k (after m h)).limits ∙ limits_after h r lt)
+      (λ d. ap (λ ls. get_or ls r no_range) (strike_words m k (after m h) (not-false (stands (after m h) k) (or_parts (no_place k) (not (stands (after m h) k)) d).1)).limits ∙ limits_after h r lt)
   limits_after (settle b ∷ h) r lt = cond_both (bad_budget b) (after m h) (settling m b (after m h)).table (λ u. limits_at u r ≡ limits_of m h r)
       (λ _. limits_after h r lt)
       (λ _. ap (λ ls. get_or ls r no_range) (settle_stays b (after m h) (kept_after m h)).0 ∙ limits_after h r lt)

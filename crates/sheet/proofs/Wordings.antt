@@ -18,7 +18,7 @@ use Rattle.sheet.specs.Histories.{passes_check}
 use Rattle.sheet.specs.Places.{has, lowest, without}
 use Rattle.sheet.specs.Rules.{after_steps, at_rest, cut, cut_table, cuts, limits_at, line_at, no_range, range_at, reaction, rest_or_open, results_of, settling, stands, step, step_at, step_of_line, table_after_enter, table_after_limit, table_after_strike, table_at_limits, table_in_limits, table_or_void, table_with_due, table_with_line, table_with_range, table_without_line, then, void_table}
 use Rattle.sheet.specs.Words.{AreSteps, AtLimits, IsEnter, IsLimit, IsSettle, IsStep, IsStrike, IsVoid, Names, NamesChanged, Narrows, Takes, Tightens, common_if, gets}
-use Rattle.sheet.proofs.Boards.{naming_at, standing_at}
+use Rattle.sheet.proofs.Boards.{naming_at, none_from, standing_at}
 use Rattle.sheet.proofs.Kept.{Formed, Kept, formed_cut, kept_step, named_stands, standing_place}
 use Rattle.sheet.proofs.Meets.{empty_from, meet_comm, meet_left, meet_right, meet_whole, proper_from, same_or_not, smaller_differs, within_self, within_then}
 use Rattle.sheet.proofs.PlaceSets.{lowest_in, lowest_some, none_has, union_has, with_has, without_from, without_has}
@@ -429,11 +429,13 @@ module _ (m : Meaning) where
         (λ e. loosened e t.state)
 
   -- ---- an enter
-  pub enter_words : (n : ℕ) (l : Line) (t : Table) → n < 64 → IsEnter n l t (table_after_enter m n l t)
-  enter_words n l t lt = by t.state refl
+  pub enter_words : (n : ℕ) (l : Line) (t : Table) → n < 64 → stands t n ≡ false → IsEnter n l t (table_after_enter m n l t)
+  enter_words n l t lt off = by t.state refl
     where
       due : (s : State) → t.state ≡ s → s ≢ Void → IsEnter n l t (table_with_due n (table_with_line n l t))
       due s e ne = record {
+        place = lt;
+        free = none_from (line_at t n) off;
         limits = refl;
         ranges = refl;
         lines = refl;
@@ -450,13 +452,13 @@ module _ (m : Meaning) where
       by : (s : State) → t.state ≡ s → IsEnter n l t (reaction m s (Entered n) (table_with_line n l t))
       by Settled e = due Settled e (λ v. absurd cc)
       by Open e = due Open e (λ v. absurd cc)
-      by Void e = record { limits = refl; ranges = refl; lines = refl; void = λ v. (v, refl); live = λ ne. absurd (ne e) }
+      by Void e = record { place = lt; free = none_from (line_at t n) off; limits = refl; ranges = refl; lines = refl; void = λ v. (v, refl); live = λ ne. absurd (ne e) }
 
   -- ---- a strike
-  pub strike_words : (n : ℕ) (t : Table) → IsStrike n t (table_after_strike m n t)
-  strike_words n t = by t.state
+  pub strike_words : (n : ℕ) (t : Table) → stands t n ≡ true → IsStrike n t (table_after_strike m n t)
+  strike_words n t on = by t.state
     where
       by : (s : State) → IsStrike n t (reaction m s Struck (table_without_line n t))
-      by Settled = record { limits = refl; lines = refl; returns = at_limits (table_without_line n t) }
-      by Open = record { limits = refl; lines = refl; returns = at_limits (table_without_line n t) }
-      by Void = record { limits = refl; lines = refl; returns = at_limits (table_without_line n t) }
+      by Settled = record { there = on; limits = refl; lines = refl; returns = at_limits (table_without_line n t) }
+      by Open = record { there = on; limits = refl; lines = refl; returns = at_limits (table_without_line n t) }
+      by Void = record { there = on; limits = refl; lines = refl; returns = at_limits (table_without_line n t) }

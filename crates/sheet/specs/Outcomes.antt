@@ -8,7 +8,7 @@ abbrev pub outcome_text : ℕ → List ℕ
 outcome_text k = cond (k == 0) (codes "settled") (cond (k == 1) (codes "stopped") (codes "void"))
 
 -- what a sheet tells of itself for debugging: its state, and no range
-abbrev pub state_text : State → List ℕ
-state_text Settled = codes "Sheet { state: Settled, .. }"
-state_text Open = codes "Sheet { state: Open, .. }"
-state_text Void = codes "Sheet { state: Void, .. }"
+abbrev pub sheet_text : State → List ℕ
+sheet_text Settled = codes "Sheet { state: Settled, .. }"
+sheet_text Open = codes "Sheet { state: Open, .. }"
+sheet_text Void = codes "Sheet { state: Void, .. }"

@@ -1,4 +1,4 @@
--- What a step, and each call that changes a sheet, makes of it in words: its limits, ranges, lines, due places and state before (t) and after (u).
+-- What a step, and each call that changes a sheet, makes of it in words, and what partner answers: its limits, ranges, lines, due places and state before (t) and after (u).
 use Rattle.std.specs.Prelude.{◌≡◌, ◌≢◌, ℕ, zero, suc, ◌<◌, ◌≤◌, Bool, true, false, cond, ◌⊎◌, ◌↔◌, ℤ, Some, None, Ok, Err, Option, Result, ◌==◌, slice_set}
 use Rattle.catalogue.specs.declared.types.Range.{Range}
 use Rattle.catalogue.specs.declared.types.Refusal.{Refusal}
@@ -51,7 +51,8 @@ pub record AtLimits (u : Table) : Type 0 where
 
 -- ---- a step
 
--- what a register gets: what its range and all its results in a line have in common
+-- what a register gets: what its range and all its results in a line have in common. By the catalogue's law `inside` each
+-- result lies within the range, so this is the result itself, or what its two or three results have in common
 abbrev pub common_if : Bool → Range → Range → Range
 common_if true a b = meet a b
 common_if false a b = b
@@ -75,7 +76,7 @@ pub record Narrows (l : Line) (s : Triple) (place : ℕ) (t u : Table) : Type 0 
 abbrev pub Takes : Line → Option Triple → ℕ → Table → Table → Type 0
 Takes l o place t u = (NothingLeft l o t × IsVoid u) ⊎ ((s : Triple) × ((o ≡ Some s) × ((NothingLeft l o t → ⊥) × Narrows l s place t u)))
 
--- a line's three ranges, as they are
+-- a line's three ranges, as they are; said here once more, so that the words go by no definition of the rules for it
 abbrev pub ranges_as_they_are : Line → Table → Triple
 ranges_as_they_are l t = record { x = range_at t l.x; y = range_at t l.y; z = range_at t l.z }
 
@@ -136,18 +137,21 @@ pub record SetsLimits (m : Meaning) (r low high : ℕ) (t u : Table) : Type 0 wh
   pub proper : Proper limits
   pub made : IsLimit r limits t u
 
--- ---- an enter that is carried out: the line l stands at n, and is due unless the table is void
+-- ---- an enter that is carried out: n is a free place, the line l then stands there, and is due unless the table is void
 
 pub record IsEnter (n : ℕ) (l : Line) (t u : Table) : Type 0 where
+  pub place : n < PLACES
+  pub free : line_at t n ≡ None
   pub limits : u.limits ≡ t.limits
   pub ranges : u.ranges ≡ t.ranges
   pub lines : u.lines ≡ slice_set t.lines n (Some l)
   pub void : t.state ≡ Void → (u.state ≡ Void) × (u.due ≡ t.due)
   pub live : t.state ≢ Void → (u.state ≡ Open) × DueExactly u (λ k. (has t.due k ≡ true) ⊎ (k ≡ n))
 
--- ---- a strike that is carried out: no line stands at n, and there is a return to the limits
+-- ---- a strike that is carried out: a line stood at n, none does then, and there is a return to the limits
 
 pub record IsStrike (n : ℕ) (t u : Table) : Type 0 where
+  pub there : stands t n ≡ true
   pub limits : u.limits ≡ t.limits
   pub lines : u.lines ≡ slice_set t.lines n None
   pub returns : AtLimits u

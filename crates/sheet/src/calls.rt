@@ -1,8 +1,9 @@
-ghost use Rattle.std.specs.Prelude.{◌≡◌, ◌≢◌, ◌↔◌, ℤ, IfOk, IsTrue, List, OnErr, OnOk};
+ghost use Rattle.std.specs.Prelude.{◌≡◌, ◌≢◌, ◌↔◌, ◌<◌, ◌≤◌, ℤ, IfOk, IfSome, IsTrue, List, OnErr, OnOk};
 ghost use Rattle.catalogue.specs.Refusals.{numbered};
 ghost use Rattle.sheet.specs.declared.lines.Line.{Line};
 ghost use Rattle.sheet.specs.Calls.{NamesLine, bad_budget, done, enter_answer, enter_asked, enter_table, in_patterns, is_settled, limit_asked, limit_table, limits_asked, limits_read, line_asked, look_answer, outcome_number, outcome_of, partner_asked, partner_named, pattern_or_none, ranks_read, settle_answer, settle_asked, settle_table, shown_range, strike_asked, strike_table};
 ghost use Rattle.sheet.specs.Histories.{Call, after, called, enter, limit, limits_of, line_of, settle, strike};
+ghost use Rattle.sheet.specs.Lines.{checked_line, drawn_of, row_of};
 ghost use Rattle.sheet.specs.Rules.{new_table, table_of};
 ghost use Rattle.sheet.specs.Words.{Ended, IsEnter, IsPartnerAnswer, IsSettle, IsStrike, SetsLimits};
 
@@ -146,6 +147,7 @@ impl<C: Catalogue> Sheet<C> {
     pub fn line(&self, place: u32) -> Result<Option<Line>, Refusal>
         ensures answer { numbered result ≡ line_asked place self.now.table }
         ensures words { (h : List Call) → self.now.table ≡ after (C.meaning self.now.catalogue) h → IfOk result (λ told. told ≡ line_of h place) }
+        ensures again { IfOk result (λ told. IfSome told (λ l. checked_line (drawn_of (row_of l)) ≡ Ok l)) }
     {
         let place = Place::try_from(place)?;
         Ok(self.table.lines.line_at(place).map(|checked| checked.line))
@@ -173,7 +175,7 @@ impl<C: Catalogue> Sheet<C> {
         ensures answer { numbered result ≡ partner_asked (C.meaning self.now.catalogue) place x z self.now.table }
         ensures words { (h : List Call) (l : Line) (a c : ℤ) → self.now.table ≡ after (C.meaning self.now.catalogue) h → line_of h place ≡ Some l → (C.meaning self.now.catalogue).reads x ≡ Some a → (C.meaning self.now.catalogue).reads z ≡ Some c → self.now.table.state ≢ State.Void → IsPartnerAnswer (C.meaning self.now.catalogue) l a c self.now.table result }
     {
-        let place = self.place_of_line(place)?;
+        let place = Place::try_from(place)?;
         let line = self.table.lines.line_at(place).ok_or(Refusal::NoLineThere)?;
         let (x, z) = self.ranks(x, z)?;
         let look = self.look()?;
@@ -186,6 +188,7 @@ impl<C: Catalogue> Sheet<C> {
         ensures table { self.new.table ≡ settle_table (C.meaning self.old.catalogue) budget self.old.table }
         ensures call { self.new.table ≡ called (C.meaning self.old.catalogue) (settle budget) self.old.table }
         ensures refused { OnErr result (self.new.table ≡ self.old.table) }
+        ensures budget { OnOk result ((0 < budget) × (budget ≤ MOST_STEPS)) }
         ensures outcome { IfOk result (λ done. Ended done.0 self.new.table) }
         ensures words { IfOk result (λ done. IsSettle (C.meaning self.old.catalogue) budget done.1 self.old.table self.new.table) }
         ensures catalogue { self.new.catalogue ≡ self.old.catalogue }

@@ -1,6 +1,6 @@
 ghost use Rattle.std.specs.Prelude.{Some};
 ghost use Rattle.sheet.specs.Histories.{Reached};
-ghost use Rattle.sheet.specs.Outcomes.{state_text};
+ghost use Rattle.sheet.specs.Outcomes.{sheet_text};
 
 use crate::table::{State, Table};
 use catalogue::interface::Catalogue;
@@ -17,7 +17,7 @@ pub struct Sheet<C: Catalogue> {
 
 /// The sheet's state and nothing else, since the ranges of a void sheet are told to nobody.
 impl<C: Catalogue> fmt::Debug for Sheet<C> {
-    ghost debug_output = { λ s. Some (state_text s.table.state) };
+    ghost debug_output = { λ s. Some (sheet_text s.table.state) };
 
     fn fmt<W: fmt::Write>(&self, f: &mut fmt::Formatter<W>) -> fmt::Result {
         f.write_str(match self.table.state {

@@ -1,5 +1,8 @@
-use Rattle.std.proofs.Common.{rules, ◌≡◌, sym, subst}
-use Rattle.sheet.specs.Rules.{table_after_strike}
+use Rattle.std.proofs.Common.{rules, ◌≡◌, false, not, sym, subst}
+use Rattle.std.proofs.lemmas.Bool.{not-false, or_parts}
+use Rattle.sheet.specs.Calls.{no_line}
+use Rattle.sheet.specs.Numbers.{no_place}
+use Rattle.sheet.specs.Rules.{stands, table_after_strike}
 use Rattle.sheet.specs.Words.{IsStrike}
 use Rattle.sheet.proofs.Wordings.{strike_words}
 use Rattle.sheet.specs.Histories.{called, strike}
@@ -20,4 +23,6 @@ returns-clause-words g c =
     let m = g.C.Catalogue.meaning s.catalogue in
     let n = c.args.place in
     let e : c.strike.new.self ≡ table_after_strike m n s.table = search rules in
-    subst (IsStrike n s.table) (sym e) (strike_words m n s.table)
+    let there : no_line n s.table ≡ false = search rules in
+    let stood = not-false (stands s.table n) (or_parts (no_place n) (not (stands s.table n)) there).1 in
+    subst (IsStrike n s.table) (sym e) (strike_words m n s.table stood)
