@@ -1,8 +1,8 @@
 #!/bin/sh
 # No impl of PartialEq, Eq, PartialOrd, Ord, Hash, Clone, Copy or Debug in crates/*/src may be written by hand, nor may one
 # of these get another name there: they must be derived, since no contract says what an equality, an order, a hash, a copy
-# or a debug text of a type is. The one exception is the debug text of a sheet (sheet/src/sheet.rt): it tells the state and
-# no range, and its contract says so. And nothing there may use `forget`, `leak`, `into_raw` or `ManuallyDrop`, since no
+# or a debug text of a type is. A debug text that a contract tells (`ghost debug_output`) may be written by hand; today that
+# of a sheet alone is (sheet/src/sheet.rt). And nothing there may use `forget`, `leak`, `into_raw` or `ManuallyDrop`, since no
 # contract sees memory that is not given back. Each place that does is named by file and line. Lines of comment are passed
 # over.
 set -eu
