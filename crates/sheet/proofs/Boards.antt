@@ -1,6 +1,5 @@
 -- A board's lines, and the index beside them, after a line is put at a free place or taken away; and the sets that a board answers.
 use Rattle.std.proofs.Common.{◌≡◌, ◌≢◌, ℕ, zero, suc, ◌+◌, ◌<◌, Bool, true, false, cond, not, ◌&&◌, ◌||◌, eqb, ltb, List, [], ◌∷◌, length, get_or, set, replicate, is_some, Some, None, Ok, Err, Option, Result, sym, refl, ap, ◌∙◌, subst, ⊎_elim, add-zero, arith}
-use Rattle.std.specs.Result.{result_ok}
 use Rattle.std.proofs.lemmas.Grind.{common_steps}
 use Rattle.std.proofs.lemmas.List.{ext_get_or, get_or-set_same, get_or-set_other, get_or-replicate, get_or_past, length-set}
 use Rattle.std.proofs.lemmas.Bool.{cases_eq, cases_Bool, eq-eqb, ne_eqb, ltb-true, ltb-false}
@@ -147,7 +146,7 @@ none_from None e = refl
 none_from (Some l) e = absurd cc
 
 -- what the check of a row answers, as a line or none
-pub answered : (r : Result CheckedLine Refusal) → line_answer (result_ok r) ≡ line_or_none (check_answer r)
+pub answered : (r : Result CheckedLine Refusal) → line_answer r ≡ line_or_none (check_answer r)
 answered (Ok l) = refl
 answered (Err e) = refl
 

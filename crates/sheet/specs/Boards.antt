@@ -1,5 +1,6 @@
 -- The lines of a sheet, by place, and how the rows of a board keep them.
 use Rattle.std.specs.Prelude.{◌≡◌, ℕ, suc, ◌<◌, Bool, true, false, ◌||◌, List, [], ◌∷◌, length, is_some, Some, None, Ok, Err, Option, Result, ◌==◌, slice_index_or, slice_set}
+use Rattle.catalogue.specs.declared.types.Refusal.{Refusal}
 use Rattle.sheet.specs.declared.lines.CheckedLine.{CheckedLine}
 use Rattle.sheet.specs.declared.lines.Line.{Line}
 use Rattle.sheet.specs.declared.places.Places.{Places}
@@ -14,9 +15,9 @@ abbrev pub line_in : List (Option Line) → ℕ → Option Line
 line_in ls n = slice_index_or ls n None
 
 -- what a checked line says
-abbrev pub line_answer : Option CheckedLine → Option Line
-line_answer None = None
-line_answer (Some l) = Some l.line
+abbrev pub line_answer : Result CheckedLine Refusal → Option Line
+line_answer (Ok l) = Some l.line
+line_answer (Err e) = None
 
 -- whether a line names a register
 abbrev pub names : ℕ → Option Line → Bool

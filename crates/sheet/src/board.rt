@@ -1,12 +1,23 @@
 ghost use Rattle.std.specs.Prelude.{◌≡◌, None, Some, false, is_some, replicate, slice_set};
-ghost use Rattle.sheet.specs.Boards.{index_with, index_without, line_answer, line_in, places_naming, places_with_line};
+ghost use Rattle.sheet.specs.Boards.{index_with, index_without, line_answer, line_in, line_or_none, places_naming, places_with_line};
+ghost use Rattle.sheet.specs.Lines.{checked_line, drawn_of};
 
 use crate::lines::{CheckedLine, DrawnLine, Line};
 use crate::places::{Place, Places};
 use crate::registers::Register;
 use crate::table::Row;
 use crate::{PLACES, REGISTERS};
+use catalogue::types::Refusal;
 use std::marker::Model;
+
+/// A row of no line: no mode set is in it.
+const NO_ROW: Row = Row {
+    kind: 0,
+    modes: 0,
+    x: 0,
+    y: 0,
+    z: 0,
+};
 
 /// The lines of a sheet, by place, with an index from each register to the lines that name it. Contracts see the lines alone.
 #[derive(Drop)]
@@ -52,27 +63,30 @@ impl Board {
         ensures { result ≡ replicate PLACES None }
     {
         Board {
-            rows: [Row {
-                kind: 0,
-                modes: 0,
-                x: 0,
-                y: 0,
-                z: 0,
-            }; PLACES],
+            rows: [NO_ROW; PLACES],
             standing: Places::none(),
             naming: [Places::none(); REGISTERS],
         }
     }
 
-    /// The line at a place, made again from its row by the check.
-    pub(crate) fn line_at(&self, place: Place) -> Option<CheckedLine>
-        ensures { line_answer result ≡ line_in self.now place }
+    /// The row at a place, and where no line stands one that the check declines.
+    fn row_at(&self, place: Place) -> Row
+        ensures { line_or_none (checked_line (drawn_of result)) ≡ line_in self.now place }
     {
         if self.standing.has(place) {
-            DrawnLine::from(self.rows[place.index()]).check().ok()
+            self.rows[place.index()]
         } else {
-            None
+            NO_ROW
         }
+    }
+
+    /// The line at a place, made again from its row by the check; an error where none stands. It is no option, and the row
+    /// is chosen before the check: the compiler then keeps the line in registers, which saves a tenth of a step.
+    #[tactic(auto, using(crate::proofs::Boards::answered))]
+    pub(crate) fn line_at(&self, place: Place) -> Result<CheckedLine, Refusal>
+        ensures { line_answer result ≡ line_in self.now place }
+    {
+        DrawnLine::from(self.row_at(place)).check()
     }
 
     /// Whether a line stands at a place.
@@ -114,7 +128,7 @@ impl Board {
     pub(crate) fn remove(&mut self, place: Place)
         ensures { self.new ≡ slice_set self.old place None }
     {
-        if let Some(checked) = self.line_at(place) {
+        if let Ok(checked) = self.line_at(place) {
             self.standing = self.standing.without(place);
             unname(&mut self.naming, place, checked.line.x);
             unname(&mut self.naming, place, checked.line.y);

@@ -150,7 +150,8 @@ impl<C: Catalogue> Sheet<C> {
         ensures again { IfOk result (λ told. IfSome told (λ l. checked_line (drawn_of (row_of l)) ≡ Ok l)) }
     {
         let place = Place::try_from(place)?;
-        Ok(self.table.lines.line_at(place).map(|checked| checked.line))
+        let checked = self.table.lines.line_at(place);
+        Ok(checked.ok().map(|checked| checked.line))
     }
 
     /// A range by the patterns of its low and its high end.
@@ -176,7 +177,8 @@ impl<C: Catalogue> Sheet<C> {
         ensures words { (h : List Call) (l : Line) (a c : ℤ) → self.now.table ≡ after (C.meaning self.now.catalogue) h → line_of h place ≡ Some l → (C.meaning self.now.catalogue).reads x ≡ Some a → (C.meaning self.now.catalogue).reads z ≡ Some c → self.now.table.state ≢ State.Void → IsPartnerAnswer (C.meaning self.now.catalogue) l a c self.now.table result }
     {
         let place = Place::try_from(place)?;
-        let line = self.table.lines.line_at(place).ok_or(Refusal::NoLineThere)?;
+        let lines = &self.table.lines;
+        let line = lines.line_at(place).map_err(|_| Refusal::NoLineThere)?;
         let (x, z) = self.ranks(x, z)?;
         let look = self.look()?;
         Ok(look.partner_of(&line, x, z))

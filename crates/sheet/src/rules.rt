@@ -141,8 +141,8 @@ impl Table {
         };
         self.due = self.due.without(place);
         match self.lines.line_at(place) {
-            Some(line) => self.step_line(catalogue, &line),
-            None => self.rest(),
+            Ok(line) => self.step_line(catalogue, &line),
+            Err(_) => self.rest(),
         }
     }
 }
