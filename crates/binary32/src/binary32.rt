@@ -8,8 +8,8 @@ ghost use Rattle.binary32.specs.Theorems.{binary32_laws, binary_laws};
 use crate::patterns::{read, write};
 use crate::readings::{GREATEST, LEAST, Reading};
 use crate::sums::span_of;
-use catalogue::arithmetic::{Arithmetic, Readings};
-use catalogue::interface::Catalogue;
+use catalogue::arithmetic::{Arithmetic, FixedReadings, Readings};
+use catalogue::interface::{Catalogue, FixedEnds};
 use catalogue::narrowing::narrow;
 use catalogue::partners::partner;
 use catalogue::types::{Kind, Mode, Modes, Operation, Range, Refusal, Span, Triple};
@@ -52,9 +52,11 @@ impl Readings for Binary32 {
 impl Arithmetic for Binary32 {
     ghost arith = { λ _. Arithmetic32 };
 
-    ghost ends = { λ c. refl };
-
     ghost laws = { λ c. binary32_laws };
+
+    fn readings(&self) -> Range {
+        <Binary32 as Readings>::readings()
+    }
 
     fn span(&self, operation: Operation, x: i32, y: i32) -> Span {
         span_of(operation, Reading::nearest(x), Reading::nearest(y))
@@ -64,9 +66,11 @@ impl Arithmetic for Binary32 {
 impl Catalogue for Binary32 {
     ghost meaning = { λ _. Meant };
 
-    ghost ends = { λ c. refl };
-
     ghost laws = { λ c. binary_laws };
+
+    fn ends(&self) -> Range {
+        self.readings()
+    }
 
     fn rank(&self, pattern: u32) -> Result<i32, Refusal> {
         read(pattern)
@@ -84,4 +88,12 @@ impl Catalogue for Binary32 {
     fn partner(&self, operation: Operation, x: i32, z: i32, y: Range) -> Option<i32> {
         partner(self, operation, x, z, y)
     }
+}
+
+impl FixedReadings for Binary32 {
+    ghost ends = { λ c. refl };
+}
+
+impl FixedEnds for Binary32 {
+    ghost ends = { λ c. refl };
 }

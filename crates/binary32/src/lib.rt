@@ -7,4 +7,4 @@ mod magnitudes;
 mod patterns;
 mod readings;
 mod sums;
-mod types;
+pub mod types;

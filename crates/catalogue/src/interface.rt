@@ -9,6 +9,10 @@ use crate::types::{Operation, Range, Refusal, Triple};
 pub trait Catalogue: Readings {
     ghost meaning: { Self → Meaning };
 
+    /// All readings, as a range.
+    fn ends(&self) -> Range
+        ensures { result ≡ all_readings (meaning self.now) };
+
     /// The rank of a pattern, or refusal 2 if it is no reading.
     fn rank(&self, pattern: u32) -> Result<i32, Refusal>
         ensures { numbered result ≡ rank_or_2 ((meaning self.now).reads pattern) };
@@ -25,7 +29,10 @@ pub trait Catalogue: Readings {
     fn partner(&self, operation: Operation, x: i32, z: i32, y: Range) -> Option<i32>
         ensures { result ≡ (meaning self.now).partner operation.kind operation.modes x z y };
 
-    ghost ends: { (c : Self) → all_readings (meaning c) ≡ record { low = Self.LEAST; high = Self.GREATEST } };
-
     ghost laws: { (c : Self) → Laws (meaning c) };
+}
+
+/// A catalogue whose ends are the same for every value: the constants.
+pub trait FixedEnds: Catalogue {
+    ghost ends: { (c : Self) → all_readings (Self.meaning c) ≡ record { low = Self.LEAST; high = Self.GREATEST } };
 }

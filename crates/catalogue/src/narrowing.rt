@@ -108,7 +108,7 @@ impl<A: Arithmetic> Constraint<'_, A> {
     pub(crate) fn readings(&self) -> Range
         ensures { result ≡ readings (A.arith self.now.arithmetic.now) }
     {
-        A::readings()
+        self.arithmetic.readings()
     }
 
     /// The least and the greatest result for two ranks.

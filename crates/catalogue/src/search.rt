@@ -91,8 +91,8 @@ impl Question {
     }
 
     /// How many ranks, at most `n`, to go on from another to the first that passes.
-    /// The near end is tested first, then what is likely; from there the steps grow while they fail, or pass, alike, and
-    /// then halve.
+    /// The ends are tested first, then what is likely; from there the steps grow while they fail, or pass, alike, and then
+    /// halve.
     fn distance<A: Arithmetic>(self, arithmetic: &A, from: i32, n: u32) -> Option<u32>
         requires { FitsSigned w32 (Moved (Rises self) from n) }
         ensures { result ≡ First (λ k. Passes (A.arith arithmetic.now) self (Moved (Rises self) from k)) n }
@@ -100,11 +100,14 @@ impl Question {
         if self.passes_at(arithmetic, from, 0) {
             return Some(0);
         }
+        if !self.passes_at(arithmetic, from, n) {
+            return None;
+        }
         let mut low = 0;
         let mut high = n;
         let mut next = from.abs_diff(self.likely(arithmetic)).saturating_add(1);
         let mut step: u32 = 1;
-        // No index is counted: two bounds close in on each other. All before `low` fail, and `high` passes unless it is `n`.
+        // No index is counted: two bounds close in on each other. All before `low` fail, and `high` passes.
         while low < high {
             let middle = next.clamp(low, high - 1);
             if self.passes_at(arithmetic, from, middle) {
@@ -115,9 +118,6 @@ impl Question {
                 next = middle.saturating_add(step.min((high - low) / 2));
             }
             step = step.saturating_mul(16);
-        }
-        if high == n && !self.passes_at(arithmetic, from, high) {
-            return None;
         }
         Some(high)
     }

@@ -5,8 +5,8 @@ ghost use Rattle.std.proofs.Common.{lit<};
 ghost use Rattle.counters.specs.Stops.{stopping_laws, counting_laws};
 
 use crate::stopping::Scale;
-use catalogue::arithmetic::{Arithmetic, Readings};
-use catalogue::interface::Catalogue;
+use catalogue::arithmetic::{Arithmetic, FixedReadings, Readings};
+use catalogue::interface::{Catalogue, FixedEnds};
 use catalogue::narrowing::narrow;
 use catalogue::partners::partner;
 use catalogue::types::{Operation, Range, Refusal, Span, Triple};
@@ -31,9 +31,11 @@ impl Readings for Counter {
 impl Arithmetic for Counter {
     ghost arith = { λ _. stopping 16777215 };
 
-    ghost ends = { λ c. refl };
-
     ghost laws = { λ c. stopping_laws 16777215 (lit< tt) };
+
+    fn readings(&self) -> Range {
+        <Counter as Readings>::readings()
+    }
 
     fn span(&self, operation: Operation, x: i32, y: i32) -> Span {
         SCALE.span(operation, x, y)
@@ -43,9 +45,11 @@ impl Arithmetic for Counter {
 impl Catalogue for Counter {
     ghost meaning = { λ _. Meant };
 
-    ghost ends = { λ c. refl };
-
     ghost laws = { λ c. counting_laws 16777215 (lit< tt) };
+
+    fn ends(&self) -> Range {
+        self.readings()
+    }
 
     fn rank(&self, pattern: u32) -> Result<i32, Refusal> {
         SCALE.rank(pattern)
@@ -63,4 +67,12 @@ impl Catalogue for Counter {
     fn partner(&self, operation: Operation, x: i32, z: i32, y: Range) -> Option<i32> {
         partner(self, operation, x, z, y)
     }
+}
+
+impl FixedReadings for Counter {
+    ghost ends = { λ c. refl };
+}
+
+impl FixedEnds for Counter {
+    ghost ends = { λ c. refl };
 }

@@ -4,3 +4,5 @@
 
 pub mod counter;
 mod stopping;
+#[cfg(test)]
+mod upto;

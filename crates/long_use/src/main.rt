@@ -112,7 +112,7 @@ impl<C: Catalogue> Used<C> {
     /// Whether the limits that are read back at a register are those that were noted there: the same readings, since a reading
     /// may have several patterns.
     fn has_noted_limits(&self, catalogue: &C, register: u32) -> bool {
-        let all = C::readings();
+        let all = catalogue.ends();
         let noted = self.limits.get(&register).copied().unwrap_or(Limits {
             low: catalogue.pattern(all.low),
             high: catalogue.pattern(all.high),

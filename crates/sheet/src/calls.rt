@@ -60,7 +60,7 @@ impl<C: Catalogue> Sheet<C> {
         ensures sizes { (REGISTERS ≡ 32) × (PLACES ≡ 64) × (MOST_STEPS ≡ 65535) }
         ensures catalogue { result.catalogue ≡ catalogue }
     {
-        let table = Table::new(C::readings());
+        let table = Table::new(catalogue.ends());
         Sheet { catalogue, table }
     }
 
