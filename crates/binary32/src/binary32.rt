@@ -64,6 +64,10 @@ impl Arithmetic for Binary32 {
 }
 
 impl Catalogue for Binary32 {
+    const LEAST: i32 = <Binary32 as Readings>::LEAST;
+
+    const GREATEST: i32 = <Binary32 as Readings>::GREATEST;
+
     ghost meaning = { λ _. Meant };
 
     ghost laws = { λ c. binary_laws };

@@ -6,7 +6,12 @@ use crate::arithmetic::Readings;
 use crate::types::{Operation, Range, Refusal, Triple};
 
 /// A board's arithmetic as a sheet sees it. Its meaning belongs to the value, and no call alters it.
-pub trait Catalogue: Readings {
+pub trait Catalogue {
+    /// The least reading, where it is the same for every value.
+    const LEAST: i32;
+    /// The greatest reading, where it is the same for every value.
+    const GREATEST: i32;
+
     ghost meaning: { Self → Meaning };
 
     /// All readings, as a range.
@@ -32,7 +37,7 @@ pub trait Catalogue: Readings {
     ghost laws: { (c : Self) → Laws (meaning c) };
 }
 
-/// A catalogue whose ends are the same for every value: the constants.
-pub trait FixedEnds: Catalogue {
+/// A catalogue whose ends are the same for every value: the constants of `Readings`.
+pub trait FixedEnds: Catalogue + Readings {
     ghost ends: { (c : Self) → all_readings (Self.meaning c) ≡ record { low = Self.LEAST; high = Self.GREATEST } };
 }

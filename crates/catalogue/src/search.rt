@@ -103,9 +103,15 @@ impl Question {
         if !self.passes_at(arithmetic, from, n) {
             return None;
         }
+        // A likely rank that lies behind says that the first one to pass lies near.
+        let likely = if self.rises() {
+            self.likely(arithmetic).max(from)
+        } else {
+            self.likely(arithmetic).min(from)
+        };
         let mut low = 0;
         let mut high = n;
-        let mut next = from.abs_diff(self.likely(arithmetic)).saturating_add(1);
+        let mut next = from.abs_diff(likely).saturating_add(1);
         let mut step: u32 = 1;
         // No index is counted: two bounds close in on each other. All before `low` fail, and `high` passes.
         while low < high {

@@ -43,6 +43,10 @@ impl Arithmetic for Counter {
 }
 
 impl Catalogue for Counter {
+    const LEAST: i32 = <Counter as Readings>::LEAST;
+
+    const GREATEST: i32 = <Counter as Readings>::GREATEST;
+
     ghost meaning = { λ _. Meant };
 
     ghost laws = { λ c. counting_laws 16777215 (lit< tt) };

@@ -1,13 +1,12 @@
 //! Counters up to an end that is told at run time. No board has them: they show that the ends of a catalogue may belong to
 //! its value, and that an arithmetic may be called without its type being known.
 
-ghost use Rattle.std.specs.Prelude.{pos};
 ghost use Rattle.counters.specs.Counters.{counting};
 ghost use Rattle.counters.specs.Stopping.{stopping};
 ghost use Rattle.counters.specs.Stops.{stopping_laws, counting_laws};
 
 use crate::stopping::Scale;
-use catalogue::arithmetic::{Arithmetic, Readings};
+use catalogue::arithmetic::Arithmetic;
 use catalogue::interface::Catalogue;
 use catalogue::narrowing::narrow;
 use catalogue::partners::partner;
@@ -16,16 +15,6 @@ use catalogue::types::{Kind, Mode, Modes, Operation, Range, Refusal, Span, Tripl
 #[derive(Drop)]
 struct Upto {
     scale: Scale,
-}
-
-impl Readings for Upto {
-    const LEAST: i32 = 0;
-
-    const GREATEST: i32 = 1_073_741_823;
-
-    ghost LEAST = { pos 0 };
-
-    ghost GREATEST = { pos 1073741823 };
 }
 
 impl Arithmetic for Upto {
@@ -46,6 +35,10 @@ impl Arithmetic for Upto {
 }
 
 impl Catalogue for Upto {
+    const LEAST: i32 = 0;
+
+    const GREATEST: i32 = 1_073_741_823;
+
     ghost meaning = { λ c. counting c.scale.end };
 
     ghost laws = { λ c. counting_laws c.scale.end c.scale.fits };
